@@ -1,0 +1,46 @@
+use crate::Rights;
+
+/// A loadable segment of a file: a program header of type PT_LOAD (gABI, "Program Header").
+#[derive(Clone, Copy, Debug, PartialEq, Eq)]
+pub struct Segment {
+    /// `p_offset`: where the segment's bytes begin in the file.
+    pub offset: u64,
+    /// `p_vaddr`: where they begin in memory, counted from the load address.
+    pub vaddr: u64,
+    /// `p_filesz`: how many bytes the file holds.
+    pub filesz: u64,
+    /// `p_memsz`: how many bytes there are in memory; those past `filesz` are zero.
+    pub memsz: u64,
+    /// `p_flags`.
+    pub rights: Rights,
+    /// The file offset of the program header.
+    pub header_at: u64,
+}
+
+/// A program header of type PT_DYNAMIC (gABI, "Dynamic Section").
+#[derive(Clone, Copy, Debug, PartialEq, Eq)]
+pub struct DynHeader {
+    /// `p_vaddr`: where the dynamic section begins in memory, counted from the load address.
+    pub vaddr: u64,
+    /// `p_filesz`: its size in bytes.
+    pub filesz: u64,
+    /// The file offset of the program header.
+    pub header_at: u64,
+}
+
+/// An entry of a symbol table (gABI, "Symbol Table").
+#[derive(Clone, Copy, Debug, PartialEq, Eq)]
+pub struct Symbol {
+    /// `st_name`: the offset of the name in the string table.
+    pub name: u32,
+    /// `st_info`: the type in the low four bits, the binding above.
+    pub info: u8,
+    /// `st_shndx`: the section that the symbol is defined in, 0 where it is an import.
+    pub shndx: u16,
+    /// `st_value`.
+    pub value: u64,
+    /// `st_size`: in bytes.
+    pub size: u64,
+    /// The file offset of the entry.
+    pub at: u64,
+}
