@@ -1,0 +1,15 @@
+//! Instructions of x86-64 as values: registers, operands, operations, and one variant for each form
+//! of instruction that guest code may hold. The names are those of the Intel SDM, volume 2.
+#![tactic(auto)]
+
+mod instruction;
+mod operands;
+mod operations;
+mod registers;
+mod xmm;
+
+pub use instruction::Insn;
+pub use operands::{Base, Count, Mem, Place, Source, XmmOperand};
+pub use operations::{AluOp, BitsOp, Cond, MulDivOp, ShiftOp, UnaryOp};
+pub use registers::{HighReg, Reg, Width};
+pub use xmm::XmmRow;
