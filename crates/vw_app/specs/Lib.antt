@@ -1,0 +1,4 @@
+pub mod OneFunction
+pub mod Spelling
+pub mod Walk
+pub mod Found
