@@ -2,3 +2,8 @@ pub mod OneFunction
 pub mod Spelling
 pub mod Walk
 pub mod Found
+pub mod World
+pub mod Module
+pub mod Machine
+pub mod Permitted
+pub mod Sandboxed

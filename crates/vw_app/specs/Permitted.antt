@@ -1,0 +1,78 @@
+-- The events of a step, and which of them a sandbox permits.
+use Rattle.std.specs.Prelude.{◌≡◌, ℕ, ◌+◌, ◌-◌, ◌^◌, ◌<◌, ◌≤◌, ◌⊎◌, Bool, true, if◌then◌else◌, List, [], ◌∷◌, ◌++◌, map}
+use Rattle.vw_insn.specs.declared.instruction.Insn.{Insn}
+use Rattle.vw_insn.specs.Effect.{Access, Write, After, Transfer, Next, Back, Stop, Unstated, reads}
+use Rattle.vw_app.specs.World.{Range, World, IsWithin, heap_range, globals_range}
+use Rattle.vw_app.specs.Module.{Module, Function}
+use Rattle.vw_app.specs.Machine.{Activation, State, Choice, Here, Code, Nowhere, IsOf, function_range, after_insn, accesses, traps}
+
+pub data Event : Type 0 where
+  Reads : (at size : ℕ) → Event
+  Writes : (at size : ℕ) → Event
+  Goes : (to : ℕ) → Event
+
+-- where a transfer goes, seen from the instruction before `next`
+abbrev pub target : ℕ → Transfer → List Event
+target next Next = Goes next ∷ []
+target next (Back to) = Goes to ∷ []
+target next Stop = []
+target next Unstated = []
+
+module _ (m : Module) (w : World) where
+  -- the reads, the writes and then the transfer of the next step; one that traps has no transfer
+  abbrev pub events : State → Here → Choice → List Event
+  events s Nowhere choice = Goes s.rip ∷ []
+  events s (Code i len) choice =
+      let after = after_insn m w s i len choice in
+      let read = reads i (s.rip + len) s.registers in
+      map (λ a. Reads a.at a.size) read
+      ++ map (λ v. Writes v.at v.size) after.writes
+      ++ (if traps w (accesses read after.writes) choice then [] else target (s.rip + len) after.transfer)
+
+  -- each of n bytes from a is a byte of the image that may be read
+  abbrev pub IsReadable : ℕ → ℕ → Type 0
+  IsReadable a n = (q : ℕ) → a ≤ q → q < a + n → (w.load ≤ q) × (m.is_readable (q - w.load) ≡ true)
+
+  -- An instruction may read n bytes from a: in the heap's reservation, the instance word as a whole,
+  -- the globals, readable bytes of the image, bytes of its frame that it has written, and the 4,096
+  -- bytes above its return address, which are its caller's.
+  abbrev pub MayRead : Activation → ℕ → ℕ → Type 0
+  MayRead top a n =
+      IsWithin a n (heap_range w)
+      ⊎ ((a + 8 ≡ w.heap) × (n ≡ 8))
+      ⊎ IsWithin a n (globals_range w)
+      ⊎ IsReadable a n
+      ⊎ ((q : ℕ) → a ≤ q → q < a + n → top.written q ≡ true)
+      ⊎ IsWithin a n (record { from = top.rsp0 + 8; to = top.rsp0 + 4104 })
+
+  -- An instruction may write n bytes at a: in the heap's reservation, in the globals, and in its frame
+  -- with the guard below it, so never over its return address.
+  abbrev pub MayWrite : Activation → ℕ → ℕ → Type 0
+  MayWrite top a n =
+      IsWithin a n (heap_range w) ⊎ IsWithin a n (globals_range w) ⊎ IsWithin a n (record { from = w.stack_low - 8192; to = top.rsp0 })
+
+  -- control stays in the bytes of the function
+  abbrev pub StaysInside : Activation → ℕ → Type 0
+  StaysInside top to = (f : Function) × IsOf m w top f × IsWithin to 1 (function_range w f)
+
+  -- what is permitted to a step that transfers control so
+  abbrev pub MayDo : Activation → Transfer → Event → Type 0
+  MayDo top (Back to) (Reads a n) = (a ≡ top.rsp0) × (n ≡ 8)
+  MayDo top (Back to) (Writes a n) = ⊥
+  MayDo top (Back to) (Goes a) = a ≡ top.back
+  MayDo top Next (Reads a n) = MayRead top a n
+  MayDo top Next (Writes a n) = MayWrite top a n
+  MayDo top Next (Goes a) = StaysInside top a
+  MayDo top Stop (Reads a n) = MayRead top a n
+  MayDo top Stop (Writes a n) = MayWrite top a n
+  MayDo top Stop (Goes a) = ⊥
+  MayDo top Unstated event = ⊥
+
+  abbrev pub PermittedFrom : List Activation → State → Here → Choice → Event → Type 0
+  PermittedFrom [] s here choice event = ⊥
+  PermittedFrom (top ∷ rest) s Nowhere choice event = ⊥
+  PermittedFrom (top ∷ rest) s (Code i len) choice event = MayDo top (after_insn m w s i len choice).transfer event
+
+  -- an event of the next step is permitted; where no step is defined, none is
+  abbrev pub Permitted : State → Here → Choice → Event → Type 0
+  Permitted s here choice event = PermittedFrom s.active s here choice event
