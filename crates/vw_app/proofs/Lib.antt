@@ -1,2 +1,4 @@
 pub mod Spellings
 pub mod Walks
+pub mod Pieces
+pub mod OneFunctions

@@ -19,14 +19,14 @@ rounded_up n = (n + 7) / 8 * 8
 abbrev pub identification : List ℕ
 identification = 0x7F ∷ 0x45 ∷ 0x4C ∷ 0x46 ∷ 2 ∷ 1 ∷ 1 ∷ zeros 9
 
--- the 64 bytes of the ELF header; `sections` is e_shoff
+-- the 64 bytes of the ELF header; `sections_at` is e_shoff
 abbrev pub file_header : ℕ → List ℕ
-file_header sections =
+file_header sections_at =
     identification
     -- e_type ET_DYN, e_machine EM_X86_64, e_version
     ++ little_bytes 2 3 ++ little_bytes 2 62 ++ little_bytes 4 1
     -- e_entry, e_phoff, e_shoff, e_flags
-    ++ little_bytes 8 0 ++ little_bytes 8 64 ++ little_bytes 8 sections ++ little_bytes 4 0
+    ++ little_bytes 8 0 ++ little_bytes 8 64 ++ little_bytes 8 sections_at ++ little_bytes 4 0
     -- e_ehsize, e_phentsize, e_phnum, e_shentsize, e_shnum, e_shstrndx
     ++ little_bytes 2 64 ++ little_bytes 2 56 ++ little_bytes 2 1 ++ little_bytes 2 64 ++ little_bytes 2 3 ++ little_bytes 2 0
 
@@ -50,21 +50,21 @@ section_header type' offset size link entry_size =
     little_bytes 4 0 ++ little_bytes 4 type' ++ little_bytes 8 0 ++ little_bytes 8 0
     ++ little_bytes 8 offset ++ little_bytes 8 size ++ little_bytes 4 link ++ little_bytes 4 0 ++ little_bytes 8 0 ++ little_bytes 8 entry_size
 
--- What follows the code and its padding, at the offset `at`: the symbols (a null one, and `f`, a
--- global STT_FUNC of `size` bytes), their string table, and the section headers (a null one,
--- SHT_SYMTAB and SHT_STRTAB).
-abbrev pub symbols_and_sections : ℕ → ℕ → List ℕ
-symbols_and_sections at size =
-    symbol 0 0 0 0 0 ++ symbol 1 0x12 1 code_start size
-    ++ (0 ∷ 0x66 ∷ 0 ∷ zeros 5)
-    ++ section_header 0 0 0 0 0 ++ section_header 2 at 48 2 24 ++ section_header 3 (at + 48) 3 0 0
+-- the symbols, a null one and `f`, a global STT_FUNC of `size` bytes, and their string table
+abbrev pub symbols : ℕ → List ℕ
+symbols size = symbol 0 0 0 0 0 ++ symbol 1 0x12 1 code_start size ++ (0 ∷ 0x66 ∷ 0 ∷ zeros 5)
+
+-- the section headers, of the symbol table at the offset `at` and its string table behind it: a null
+-- one, SHT_SYMTAB and SHT_STRTAB
+abbrev pub sections : ℕ → List ℕ
+sections at = section_header 0 0 0 0 0 ++ section_header 2 at 48 2 24 ++ section_header 3 (at + 48) 3 0 0
 
 -- the file of the module whose function `f` has this code
 unfoldable pub one_function : List ℕ → List ℕ
 one_function code =
     let end = code_start + length code in
     let at = rounded_up end in
-    file_header (at + 56) ++ segment_header end ++ code ++ zeros (at - end) ++ symbols_and_sections at (length code)
+    file_header (at + 56) ++ segment_header end ++ code ++ zeros (at - end) ++ symbols (length code) ++ sections at
 
 -- the longest code of a function, in bytes
 abbrev pub longest_code : ℕ

@@ -2,6 +2,7 @@
 #![tactic(auto)]
 
 mod check;
+mod one_function;
 mod spelling;
 mod walk;
 

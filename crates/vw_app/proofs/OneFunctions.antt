@@ -1,0 +1,44 @@
+-- The file of one function: its fields, and where its code is.
+use Rattle.std.proofs.Common.{◌≡◌, ◌⊎◌, ℕ, ◌+◌, ◌-◌, ◌*◌, ◌^◌, ◌≤◌, ◌<◌, List, [], ◌++◌, length, take, drop, append_assoc, length-append, refl, sym, ◌∙◌, ap, subst, arith, lit<}
+use Rattle.std.proofs.lemmas.List.{length-drop}
+use Rattle.std.proofs.Math.Seq.{take-append_seam}
+use Rattle.byteorder.specs.Numbers.{little_number-reads_back}
+use Rattle.byteorder.specs.Endian.{little_bytes, little_number}
+use Rattle.vw_bits.specs.Fields.{field}
+use Rattle.vw_app.specs.OneFunction.{one_function, IsOneFunction, code_start, longest_code, zeros, rounded_up, file_header, segment_header, symbols, sections}
+
+-- what follows the code in the file
+behind : List ℕ → List ℕ
+behind code = zeros (rounded_up (120 + length code) - (120 + length code)) ++ (symbols (length code) ++ sections (rounded_up (120 + length code)))
+
+regroup : (a b c d : List ℕ) → ((a ++ b) ++ c) ++ d ≡ a ++ (b ++ (c ++ d))
+regroup a b c d = simp append_assoc
+
+code_on : (code : List ℕ) → drop 120 (one_function code) ≡ code ++ behind code
+unfolding one_function behind
+code_on code = regroup code (zeros (rounded_up (120 + length code) - (120 + length code))) (symbols (length code)) (sections (rounded_up (120 + length code)))
+
+size_field : (code : List ℕ) → 120 + length code < 256 ^ 8 → field (one_function code) 96 8 ≡ 120 + length code
+unfolding one_function field
+size_field code small = little_number-reads_back 8 (120 + length code) [] small
+
+pub record Known (file code : List ℕ) : Type 0 where
+  pub sized : field file 96 8 ≡ 120 + length code
+  pub within : 120 + length code ≤ length file
+  pub found : take (length code) (drop 120 file) ≡ code
+
+known_of : (code : List ℕ) → 1 ≤ length code → length code ≤ 2 ^ 20 → Known (one_function code) code
+known_of code some short =
+    record {
+      sized = size_field code (omega arith);
+      within = omega (arith, length-drop 120 (one_function code), ap length (code_on code), length-append code (behind code));
+      found = rw code_on (take-append_seam code (behind code));
+    }
+
+pub known : {file code : List ℕ} → IsOneFunction file code → Known file code
+known {file} {code} is = subst (λ (f : List ℕ). Known f code) (sym is.same) (known_of code is.some is.short)
+
+pub made : (code start one two three four five new : List ℕ) → start ≡ [] → one ≡ start ++ file_header (rounded_up (120 + length code) + 56) → two ≡ one ++ segment_header (120 + length code) → three ≡ two ++ code
+    → four ≡ three ++ zeros (rounded_up (120 + length code) - (120 + length code)) → five ≡ four ++ symbols (length code) → new ≡ five ++ sections (rounded_up (120 + length code)) → new ≡ one_function code
+unfolding one_function
+made code start one two three four five new a b d e f g h = rw (h, g, f, e, d, b, a) refl
