@@ -25,14 +25,14 @@ index_of_first files name place e =
     let at : ℕ = position_or_len (named name) files in
     let found : find (named name) files ≡ slice_get files at = find_at (named name) files in
     elim ((slice_get_cases files at).1) [
-        inl (file, l, s, g) ↦ (
-            let is : place ≡ Some at = grind arith in
-            rw is (placed_some files name at file l (found ∙ s) s)
-        )
-        | inr (l, s) ↦ (
-            let is : place ≡ None = grind arith in
-            rw is (ap (option_map (λ (x : ShelfFile). x.bytes)) (found ∙ s))
-        )
+      | inl (file, l, s, g) ↦ (
+          let is : place ≡ Some at = grind arith in
+          rw is (placed_some files name at file l (found ∙ s) s)
+          )
+      | inr (l, s) ↦ (
+          let is : place ≡ None = grind arith in
+          rw is (ap (option_map (λ (x : ShelfFile). x.bytes)) (found ∙ s))
+          )
     ]
 
 pub bytes_of_file : (files : List ShelfFile) (at : ℕ) (file : ShelfFile) → at < length files → file ≡ get_or files at file → bytes_at files at ≡ file.bytes

@@ -70,4 +70,3 @@ longer (Some bytes) left done limit (rest, e, f) l =
     let told : IfSome (Some rest) (λ (r : List ℕ). limit < length done + length r) = rw e at l in
     let size : length bytes ≡ length done + length rest = ap length f ∙ length-append done rest in
     omega arith
-

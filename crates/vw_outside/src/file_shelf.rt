@@ -1,6 +1,6 @@
-ghost use Rattle.std.specs.Prelude.{◌≡◌, ℕ, ◌+◌, ◌-◌, ◌^◌, ◌<◌, ◌≤◌, List, Option, true, false, length, Some, None, string_bytes, is_some, is_ok, is_err, IsErr, IfOk, OnOk, OnErr};
+ghost use Rattle.std.specs.Prelude.{◌≡◌, ◌+◌, ◌-◌, ◌^◌, ◌<◌, ◌≤◌, true, false, length, Some, None, string_bytes, is_some, is_err, IsErr, IfOk, OnOk, OnErr};
 ghost use Rattle.std.specs.Io.{ReadsAtMost};
-ghost use Rattle.vw_outside.specs.Shelf.{Rose, NeverFell, SameFiles, Gave};
+ghost use Rattle.vw_outside.specs.Shelf.{Rose, NeverFell, SameFiles, Gave, untold};
 ghost use Rattle.vw_outside.specs.Memory.{FileShelfState, next_count};
 
 use crate::counts::one_more;
@@ -38,11 +38,11 @@ impl<'a, R: Files + Input> Model for FileShelf<'a, R> {
     ghost Value = { FileShelfState };
 
     ghost view = { λ s. record {
-        is_open = is_some s.source;
-        opened = option_map string_bytes s.opened;
-        given = s.given;
-        failed = s.failed;
-        faults = s.faults;
+      is_open = is_some s.source;
+      opened = option_map string_bytes s.opened;
+      given = s.given;
+      failed = s.failed;
+      faults = s.faults;
     } };
 
     ghost invariant = { λ s. s.faults < 2 ^ 64 };
@@ -53,11 +53,11 @@ impl<'a, R: Files + Input> FileShelf<'a, R> {
     /// memory.
     pub fn new(rt: &'a R) -> FileShelf<'a, R>
         ensures { result ≡ record {
-            is_open = false;
-            opened = None;
-            given = 0;
-            failed = false;
-            faults = 0;
+          is_open = false;
+          opened = None;
+          given = 0;
+          failed = false;
+          faults = 0;
         } }
     {
         FileShelf {
@@ -72,9 +72,9 @@ impl<'a, R: Files + Input> FileShelf<'a, R> {
 }
 
 impl<'a, R: Files + Input> Shelf for FileShelf<'a, R> {
-    ghost told = { λ _ _. None };
+    ghost told = { λ _ _. untold };
 
-    ghost left = { λ _. None };
+    ghost left = { λ _. untold };
 
     ghost given = { λ s. s.given };
 
@@ -85,26 +85,26 @@ impl<'a, R: Files + Input> Shelf for FileShelf<'a, R> {
     ghost faults = { λ s. s.faults };
 
     fn open(&mut self, name: String) -> Result<(), Failed>
-        ensures files { SameFiles (λ _. None) (λ _. None) }
+        ensures files { SameFiles (λ _. untold) (λ _. untold) }
         ensures named { self.new.opened ≡ Some (string_bytes name) }
         ensures restarted { self.new.given ≡ 0 }
-        ensures ok { OnOk result (let bytes : Option (List ℕ) = None in bytes ≡ bytes) }
+        ensures ok { OnOk result (untold ≡ untold) }
         ensures err { OnErr result (Rose self.old.faults self.new.faults) }
         ensures last { self.new.failed ≡ is_err result }
         ensures count { NeverFell self.old.faults self.new.faults }
 
         ensures after_ok { OnOk result (self.new ≡ record self.old {
-            is_open = true;
-            opened = Some (string_bytes name);
-            given = 0;
-            failed = false;
+          is_open = true;
+          opened = Some (string_bytes name);
+          given = 0;
+          failed = false;
         }) }
         ensures after_err { OnErr result (self.new ≡ record {
-            is_open = false;
-            opened = Some (string_bytes name);
-            given = 0;
-            failed = true;
-            faults = next_count self.old.faults;
+          is_open = false;
+          opened = Some (string_bytes name);
+          given = 0;
+          failed = true;
+          faults = next_count self.old.faults;
         }) }
     {
         let source = open_source(self.rt, name.as_str());
@@ -121,9 +121,9 @@ impl<'a, R: Files + Input> Shelf for FileShelf<'a, R> {
     }
 
     fn read(&mut self, buf: &mut [u8]) -> Result<usize, Failed>
-        ensures files { SameFiles (λ _. None) (λ _. None) }
+        ensures files { SameFiles (λ _. untold) (λ _. untold) }
         ensures named { self.new.opened ≡ self.old.opened }
-        ensures bytes { IfOk result (λ count. Gave None None buf.new count) }
+        ensures bytes { IfOk result (λ count. Gave untold untold buf.new count) }
         ensures given { IfOk result (λ count. self.new.given ≡ self.old.given + count) }
         ensures kept { OnErr result (self.new.given ≡ self.old.given) }
         ensures err { OnErr result (Rose self.old.faults self.new.faults) }
@@ -133,12 +133,12 @@ impl<'a, R: Files + Input> Shelf for FileShelf<'a, R> {
         ensures closed { self.old.is_open ≡ false → IsErr result }
         ensures full { 2 ^ 64 - 1 < self.old.given + length buf.old → IsErr result }
         ensures after_ok { IfOk result (λ count. self.new ≡ record self.old {
-            given = self.old.given + count;
-            failed = false;
+          given = self.old.given + count;
+          failed = false;
         }) }
         ensures after_err { OnErr result (self.new ≡ record self.old {
-            failed = true;
-            faults = next_count self.old.faults;
+          failed = true;
+          faults = next_count self.old.faults;
         }) }
     {
         match read_next(&mut self.source, self.given, buf) {

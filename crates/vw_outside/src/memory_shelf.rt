@@ -40,14 +40,14 @@ impl Model for MemoryShelf {
     ghost Value = { MemoryShelfState };
 
     ghost view = { λ s. record {
-        files = s.files;
-        fail = s.fail;
-        calls = s.calls;
-        opened = option_map string_bytes s.opened;
-        left = left_of s.files s.file s.given;
-        given = s.given;
-        failed = s.failed;
-        faults = s.faults;
+      files = s.files;
+      fail = s.fail;
+      calls = s.calls;
+      opened = option_map string_bytes s.opened;
+      left = left_of s.files s.file s.given;
+      given = s.given;
+      failed = s.failed;
+      faults = s.faults;
     } };
 
     ghost invariant = { λ s. MatchOption s.file ⊤ (λ at. (at < length s.files) × (s.given ≤ length (bytes_at s.files at))) };
@@ -58,14 +58,14 @@ impl MemoryShelf {
     /// fail. Takes no memory.
     pub fn new(files: List<ShelfFile>, fail: List<u64>) -> MemoryShelf
         ensures { result ≡ record {
-            files = files;
-            fail = fail;
-            calls = 0;
-            opened = None;
-            left = None;
-            given = 0;
-            failed = false;
-            faults = 0;
+          files = files;
+          fail = fail;
+          calls = 0;
+          opened = None;
+          left = None;
+          given = 0;
+          failed = false;
+          faults = 0;
         } }
     {
         MemoryShelf {
@@ -105,19 +105,19 @@ impl Shelf for MemoryShelf {
 
         ensures fails { IsErr result ↔ (Contains self.old.fail (next_count self.old.calls) ⊎ (file_of self.old.files (string_bytes name) ≡ None)) }
         ensures after_ok { OnOk result (self.new ≡ record self.old {
-            calls = next_count self.old.calls;
-            opened = Some (string_bytes name);
-            left = file_of self.old.files (string_bytes name);
-            given = 0;
-            failed = false;
+          calls = next_count self.old.calls;
+          opened = Some (string_bytes name);
+          left = file_of self.old.files (string_bytes name);
+          given = 0;
+          failed = false;
         }) }
         ensures after_err { OnErr result (self.new ≡ record self.old {
-            calls = next_count self.old.calls;
-            opened = Some (string_bytes name);
-            left = None;
-            given = 0;
-            failed = true;
-            faults = next_count self.old.faults;
+          calls = next_count self.old.calls;
+          opened = Some (string_bytes name);
+          left = None;
+          given = 0;
+          failed = true;
+          faults = next_count self.old.faults;
         }) }
     {
         let number = one_more(self.calls);
@@ -151,16 +151,16 @@ impl Shelf for MemoryShelf {
         ensures most { IfOk result (λ count. count ≡ min (length buf.old) (length (unwrap_or self.old.left []))) }
         ensures front { IfOk result (λ count. buf.new ≡ take count (unwrap_or self.old.left []) ++ drop count buf.old) }
         ensures after_ok { IfOk result (λ count. self.new ≡ record self.old {
-            calls = next_count self.old.calls;
-            left = Some (drop count (unwrap_or self.old.left []));
-            given = self.old.given + count;
-            failed = false;
+          calls = next_count self.old.calls;
+          left = Some (drop count (unwrap_or self.old.left []));
+          given = self.old.given + count;
+          failed = false;
         }) }
         ensures buffer { OnErr result (buf.new ≡ buf.old) }
         ensures after_err { OnErr result (self.new ≡ record self.old {
-            calls = next_count self.old.calls;
-            failed = true;
-            faults = next_count self.old.faults;
+          calls = next_count self.old.calls;
+          failed = true;
+          faults = next_count self.old.faults;
         }) }
     {
         let number = one_more(self.calls);
@@ -186,9 +186,7 @@ impl Shelf for MemoryShelf {
 fn index_of(files: &[ShelfFile], name: &[u8]) -> Option<usize>
     ensures { MatchOption result (file_of files.now name.now ≡ None) (λ at. (at < length files.now) × (file_of files.now name.now ≡ Some (bytes_at files.now at))) }
 {
-    files
-        .iter()
-        .position(|file| file.name.as_slice() == name)
+    files.iter().position(|file| file.name.as_slice() == name)
 }
 
 // The bytes of the file at an index that stand after the first `given`.

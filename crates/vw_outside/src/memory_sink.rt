@@ -29,10 +29,10 @@ impl Model for MemorySink {
     ghost Value = { MemorySinkState };
 
     ghost view = { λ s. record {
-        taken = s.taken.items;
-        fail = s.fail;
-        calls = s.calls;
-        faults = s.faults;
+      taken = s.taken.items;
+      fail = s.fail;
+      calls = s.calls;
+      faults = s.faults;
     } };
 
     ghost invariant = { λ s. s.faults < 2 ^ 64 };
@@ -43,10 +43,10 @@ impl MemorySink {
     /// itself: the bytes taken will come from `alloc`.
     pub fn new(alloc: Global, fail: List<u64>) -> MemorySink
         ensures { result ≡ record {
-            taken = [];
-            fail = fail;
-            calls = 0;
-            faults = 0;
+          taken = [];
+          fail = fail;
+          calls = 0;
+          faults = 0;
         } }
     {
         MemorySink {
@@ -80,12 +80,12 @@ impl Sink for MemorySink {
         ensures fails { Contains self.old.fail (next_count self.old.calls) → IsErr result }
         ensures whole { IfOk result (λ count. count ≡ length piece.now) }
         ensures after_ok { OnOk result (self.new ≡ record self.old {
-            taken = self.old.taken ++ piece.now;
-            calls = next_count self.old.calls;
+          taken = self.old.taken ++ piece.now;
+          calls = next_count self.old.calls;
         }) }
         ensures after_err { OnErr result (self.new ≡ record self.old {
-            calls = next_count self.old.calls;
-            faults = next_count self.old.faults;
+          calls = next_count self.old.calls;
+          faults = next_count self.old.faults;
         }) }
     {
         let number = one_more(self.calls);

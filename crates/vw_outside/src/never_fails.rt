@@ -23,10 +23,10 @@ impl Model for NeverFails {
     ghost Value = { NeverFailsState };
 
     ghost view = { λ s. record {
-        bytes = s.bytes;
-        opened = option_map string_bytes s.opened;
-        left = left_after_open s.bytes (option_map string_bytes s.opened) s.given;
-        given = s.given;
+      bytes = s.bytes;
+      opened = option_map string_bytes s.opened;
+      left = left_after_open s.bytes (option_map string_bytes s.opened) s.given;
+      given = s.given;
     } };
 
     ghost invariant = { λ s. s.given ≤ length s.bytes };
@@ -36,10 +36,10 @@ impl NeverFails {
     /// A shelf of these bytes, on which nothing was opened yet. Takes no memory.
     pub fn new(bytes: List<u8>) -> NeverFails
         ensures { result ≡ record {
-            bytes = bytes;
-            opened = None;
-            left = [];
-            given = 0;
+          bytes = bytes;
+          opened = None;
+          left = [];
+          given = 0;
         } }
     {
         NeverFails {
@@ -74,9 +74,9 @@ impl Shelf for NeverFails {
 
         ensures succeeds { IsOk result }
         ensures after { self.new ≡ record self.old {
-            opened = Some (string_bytes name);
-            left = self.old.bytes;
-            given = 0;
+          opened = Some (string_bytes name);
+          left = self.old.bytes;
+          given = 0;
         } }
     {
         self.opened = Some(name);
@@ -98,8 +98,8 @@ impl Shelf for NeverFails {
         ensures most { IfOk result (λ count. count ≡ min (length buf.old) (length self.old.left)) }
         ensures front { IfOk result (λ count. buf.new ≡ take count self.old.left ++ drop count buf.old) }
         ensures after { IfOk result (λ count. self.new ≡ record self.old {
-            left = drop count self.old.left;
-            given = self.old.given + count;
+          left = drop count self.old.left;
+          given = self.old.given + count;
         }) }
     {
         if self.opened.is_none() {

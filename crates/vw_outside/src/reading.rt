@@ -43,21 +43,19 @@ pub fn read_all<F: Shelf>(
     ensures whole { IfOk result (λ read. IfSome (F.told shelf.old name.now) (λ bytes. read ≡ bytes)) }
     ensures given { IfOk result (λ read. F.given shelf.new ≡ length read) }
     ensures within { IfOk result (λ read. length read ≤ limit) }
-    ensures ok { OnOk result (F.failed shelf.new ≡ false) }
+    ensures ok_last { OnOk result (F.failed shelf.new ≡ false) }
 
     ensures named { UnlessMemory result (F.opened shelf.new ≡ Some name.now) }
     ensures fault { OnFault result (Rose (F.faults shelf.old) (F.faults shelf.new) × (F.failed shelf.new ≡ true)) }
     ensures too_long { UnlessMemory result (IsTooLong result ↔ (F.given shelf.new ≡ limit + 1)) }
     ensures at_most { UnlessMemory result (F.given shelf.new ≤ limit + 1) }
     ensures longer { OnTooLong result (IfSome (F.told shelf.old name.now) (λ bytes. limit < length bytes)) }
-    ensures given_all { OnTooLong result (F.failed shelf.new ≡ false) }
+    ensures too_long_last { OnTooLong result (F.failed shelf.new ≡ false) }
     ensures memory { OnMemory result ((shelf.new ≡ shelf.old) ⊎ ((F.opened shelf.new ≡ Some name.now) × (F.failed shelf.new ≡ false) × (F.given shelf.new ≤ limit))) }
 {
     let copy = String::from_str(alloc, name).map_err(|_| ReadError::Memory(OutOfMemory))?;
     let mut piece = room_for(alloc, PIECE).map_err(ReadError::Memory)?;
-    if shelf.open(copy).is_err() {
-        return Err(ReadError::Fault);
-    }
+    shelf.open(copy).map_err(|_| ReadError::Fault)?;
     read_opened(alloc, shelf, &mut piece, limit)
 }
 
@@ -121,14 +119,12 @@ fn read_onto<F: Shelf>(
     ensures longer { OnTooLong result (IfSome (F.left shelf.old) (λ rest. limit < length bytes.old.items + length rest)) }
     ensures memory { OnMemory result ((F.failed shelf.new ≡ false) × (F.given shelf.new ≤ limit)) }
 {
-    let Ok(count) = shelf.read(piece) else {
-        return Err(ReadError::Fault);
-    };
+    let count = shelf.read(piece).map_err(|_| ReadError::Fault)?;
     if bytes.len() as u64 + count as u64 > limit {
         return Err(ReadError::TooLong);
     }
-    match bytes.extend_from_slice(&piece[..count]) {
-        Ok(()) => Ok(count),
-        Err(_) => Err(ReadError::Memory(OutOfMemory)),
-    }
+    bytes
+        .extend_from_slice(&piece[..count])
+        .map_err(|_| ReadError::Memory(OutOfMemory))?;
+    Ok(count)
 }

@@ -1,6 +1,6 @@
-ghost use Rattle.std.specs.Prelude.{◌≡◌, ◌≤◌, ℕ, List, Option, length, None, is_some, IfOk, OnOk, OnErr};
+ghost use Rattle.std.specs.Prelude.{◌≡◌, is_some, IfOk, OnOk, OnErr};
 ghost use Rattle.std.specs.Io.{WritesAtMost};
-ghost use Rattle.vw_outside.specs.Shelf.{Rose, NeverFell};
+ghost use Rattle.vw_outside.specs.Shelf.{Rose, NeverFell, untold};
 ghost use Rattle.vw_outside.specs.Sink.{Took};
 ghost use Rattle.vw_outside.specs.Memory.{next_count};
 
@@ -37,14 +37,14 @@ impl<'a, R: Print> StdSink<'a, R> {
 }
 
 impl<'a, R: Print> Sink for StdSink<'a, R> {
-    ghost written = { λ _. None };
+    ghost written = { λ _. untold };
 
     ghost faults = { λ faults. faults };
 
     fn write(&mut self, piece: &[u8]) -> Result<usize, Failed>
-        ensures told { is_some {T = List ℕ} None ≡ is_some {T = List ℕ} None }
-        ensures bytes { IfOk result (λ count. Took None None piece.now count) }
-        ensures kept { OnErr result (let bytes : Option (List ℕ) = None in bytes ≡ bytes) }
+        ensures told { is_some untold ≡ is_some untold }
+        ensures bytes { IfOk result (λ count. Took untold untold piece.now count) }
+        ensures kept { OnErr result (untold ≡ untold) }
         ensures err { OnErr result (Rose self.old self.new) }
         ensures count { NeverFell self.old self.new }
 

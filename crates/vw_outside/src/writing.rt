@@ -15,7 +15,8 @@ pub fn write_all_of<K: Sink>(sink: &mut K, piece: &[u8]) -> Result<(), Failed>
 {
     let mut done = 0;
     while done < piece.len() {
-        done += sink.write(&piece[done..])?;
+        let count = sink.write(&piece[done..])?;
+        done += count;
     }
     Ok(())
 }
