@@ -1,2 +1,4 @@
 pub mod Shelf
 pub mod Sink
+pub mod Reading
+pub mod Memory

@@ -1,5 +1,5 @@
 -- Meanings of a shelf: named files that are opened and read from the front.
-use Rattle.std.specs.Prelude.{◌≡◌, ℕ, ◌+◌, ◌-◌, ◌^◌, ◌<◌, ◌≤◌, ◌↔◌, ◌⊎◌, List, [], length, take, drop, Option, Some, IfSome}
+use Rattle.std.specs.Prelude.{◌≡◌, ℕ, ◌+◌, ◌-◌, ◌^◌, ◌<◌, ◌≤◌, ◌↔◌, ◌⊎◌, List, [], length, take, drop, Option, Some, None, IfSome}
 
 -- A counter of 64 bits counted an event: it is higher, or stands still at its type's end.
 abbrev pub Rose : ℕ → ℕ → Type 0
@@ -8,6 +8,10 @@ Rose old new = (old < new) ⊎ (new ≡ 2 ^ 64 - 1)
 -- A counter of 64 bits did not fall.
 abbrev pub NeverFell : ℕ → ℕ → Type 0
 NeverFell old new = (old ≤ new) × (new ≤ 2 ^ 64 - 1)
+
+-- No bytes are told.
+abbrev pub untold : Option (List ℕ)
+untold = None
 
 -- The same files are told, each with the same bytes.
 abbrev pub SameFiles : (List ℕ → Option (List ℕ)) → (List ℕ → Option (List ℕ)) → Type 0

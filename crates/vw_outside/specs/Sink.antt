@@ -11,3 +11,7 @@ pub record Took (old new : Option (List ℕ)) (piece : List ℕ) (count : ℕ) :
   pub fits : count ≤ length piece
   pub some : 0 < length piece → 0 < count
   pub appended : Appended old new (take count piece)
+
+-- A front part of `piece` was appended, maybe none of it or all.
+abbrev pub AppendedFront : Option (List ℕ) → Option (List ℕ) → List ℕ → Type 0
+AppendedFront old new piece = (count : ℕ) × (count ≤ length piece) × Appended old new (take count piece)
