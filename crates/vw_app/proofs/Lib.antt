@@ -2,3 +2,4 @@ pub mod Spellings
 pub mod Walks
 pub mod Pieces
 pub mod OneFunctions
+pub mod Answers

@@ -2,6 +2,7 @@
 use Rattle.std.proofs.Common.{◌≡◌, ◌⊎◌, ℕ, ◌+◌, ◌-◌, ◌*◌, ◌^◌, ◌≤◌, ◌<◌, List, [], ◌++◌, length, take, drop, append_assoc, length-append, refl, sym, ◌∙◌, ap, subst, arith, lit<}
 use Rattle.std.proofs.lemmas.List.{length-drop}
 use Rattle.std.proofs.Math.Seq.{take-append_seam}
+use Rattle.std.proofs.Math.ListN.{length-replicate}
 use Rattle.byteorder.specs.Numbers.{little_number-reads_back}
 use Rattle.byteorder.specs.Endian.{little_bytes, little_number}
 use Rattle.vw_bits.specs.Fields.{field}
@@ -42,3 +43,21 @@ pub made : (code start one two three four five new : List ℕ) → start ≡ [] 
     → four ≡ three ++ zeros (rounded_up (120 + length code) - (120 + length code)) → five ≡ four ++ symbols (length code) → new ≡ five ++ sections (rounded_up (120 + length code)) → new ≡ one_function code
 unfolding one_function
 made code start one two three four five new a b d e f g h = rw (h, g, f, e, d, b, a) refl
+
+length-behind : (code : List ℕ) → length (behind code) ≤ 280
+unfolding behind
+length-behind code =
+    let padding = length-replicate {A = ℕ} (rounded_up (120 + length code) - (120 + length code)) 0 in
+    let rest : length (symbols (length code) ++ sections (rounded_up (120 + length code))) ≡ 248 = refl in
+    omega (arith, length-append (zeros (rounded_up (120 + length code) - (120 + length code))) (symbols (length code) ++ sections (rounded_up (120 + length code))), padding, rest)
+
+-- the file is little longer than its code
+pub length-one_function : (code : List ℕ) → length (one_function code) ≤ length code + 400
+length-one_function code =
+    omega (arith, length-drop 120 (one_function code), ap length (code_on code), length-append code (behind code), length-behind code)
+
+-- the file determines the code
+pub same_code : {file code other : List ℕ} → IsOneFunction file code → IsOneFunction file other → code ≡ other
+same_code {file} {code} {other} is also =
+    let size : length code ≡ length other = omega (arith, sym (known is).sized ∙ (known also).sized) in
+    sym (known is).found ∙ (ap (λ (n : ℕ). take n (drop 120 file)) size ∙ (known also).found)

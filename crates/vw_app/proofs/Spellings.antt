@@ -7,8 +7,8 @@ use Rattle.byteorder.specs.Endian.{little_number}
 use Rattle.vw_bits.specs.Fields.{field}
 use Rattle.vw_insn.specs.declared.instruction.Insn.{Insn}
 use Rattle.vw_insn.specs.declared.instruction.Insn.TheVariants as insn
-use Rattle.vw_app.specs.Spelling.{Spells, nop, ud2, load, store, ret, load_eax, store_eax, displacement}
-use Rattle.vw_app.specs.Walk.{StandsAt}
+use Rattle.vw_app.specs.Spelling.{Spells, nop, ud2, mov_load, mov_store, ret, load_eax, store_eax, displacement}
+use Rattle.vw_app.specs.Walk.{BeginsAt}
 
 pub take_one : (xs : List ℕ) (i : ℕ) → i < length xs → take 1 (drop i xs) ≡ get_or xs i 0 ∷ []
 take_one xs i h = rw (drop_more xs i 0 h) refl
@@ -51,8 +51,8 @@ spelled_meaning : {bytes : List ℕ} {i : Insn} → Spells bytes i → i ≡ mea
 unfolding meaning
 spelled_meaning nop = refl
 spelled_meaning ud2 = refl
-spelled_meaning (load disp four) = refl
-spelled_meaning (store disp four) = refl
+spelled_meaning (mov_load disp four) = refl
+spelled_meaning (mov_store disp four) = refl
 spelled_meaning ret = refl
 
 six : (disp : List ℕ) → length disp ≡ 4 → suc (suc (length disp)) ≡ 6
@@ -63,8 +63,8 @@ unfolding size_by
 spelled_shape nop = record { opcode = inl refl; sized = refl; after_escape = λ h. absurd (omega arith); after_load = λ h. absurd (omega arith); after_store = λ h. absurd (omega arith) }
 spelled_shape ret = record { opcode = inr (inl refl); sized = refl; after_escape = λ h. absurd (omega arith); after_load = λ h. absurd (omega arith); after_store = λ h. absurd (omega arith) }
 spelled_shape ud2 = record { opcode = inr (inr (inl refl)); sized = refl; after_escape = λ h. refl; after_load = λ h. absurd (omega arith); after_store = λ h. absurd (omega arith) }
-spelled_shape (load disp four) = record { opcode = inr (inr (inr (inl refl))); sized = six disp four; after_escape = λ h. absurd (omega arith); after_load = λ h. refl; after_store = λ h. absurd (omega arith) }
-spelled_shape (store disp four) = record { opcode = inr (inr (inr (inr refl))); sized = six disp four; after_escape = λ h. absurd (omega arith); after_load = λ h. absurd (omega arith); after_store = λ h. refl }
+spelled_shape (mov_load disp four) = record { opcode = inr (inr (inr (inl refl))); sized = six disp four; after_escape = λ h. absurd (omega arith); after_load = λ h. refl; after_store = λ h. absurd (omega arith) }
+spelled_shape (mov_store disp four) = record { opcode = inr (inr (inr (inr refl))); sized = six disp four; after_escape = λ h. absurd (omega arith); after_load = λ h. absurd (omega arith); after_store = λ h. refl }
 
 -- the shape of what stands at a point of the code
 pub record StandsShape (code : List ℕ) (at len : ℕ) : Type 0 where
@@ -123,31 +123,31 @@ shape_from code at len inside shape =
       moves = λ h. after_move code at len inside whole first sized shape h;
     }
 
-pub stands_shape : {code : List ℕ} {at len : ℕ} {i : Insn} → StandsAt code at i len → StandsShape code at len
+pub stands_shape : {code : List ℕ} {at len : ℕ} {i : Insn} → BeginsAt code at i len → StandsShape code at len
 stands_shape {code = code} {at = at} {len = len} stands = shape_from code at len stands.inside (spelled_shape stands.spelled)
 
 -- At most one instruction stands at a point.
-pub stands_once : {code : List ℕ} {at len other_len : ℕ} {i other : Insn} → StandsAt code at i len → StandsAt code at other other_len → (len ≡ other_len) × (i ≡ other)
+pub stands_once : {code : List ℕ} {at len other_len : ℕ} {i other : Insn} → BeginsAt code at i len → BeginsAt code at other other_len → (len ≡ other_len) × (i ≡ other)
 stands_once {code = code} {at = at} {len = len} {other_len = other_len} stands others =
     let same : len ≡ other_len = (stands_shape stands).sized ∙ sym (stands_shape others).sized in
     (same, spelled_meaning stands.spelled ∙ (ap (λ (n : ℕ). meaning (take n (drop at code))) same ∙ sym (spelled_meaning others.spelled)))
 
 -- what stands where the first bytes are these
 
-pub nop_stands : (code : List ℕ) (at : ℕ) → at < length code → get_or code at 0 ≡ 0x90 → StandsAt code at insn.Nop 1
+pub nop_stands : (code : List ℕ) (at : ℕ) → at < length code → get_or code at 0 ≡ 0x90 → BeginsAt code at insn.Nop 1
 nop_stands code at inside first = record { inside = omega arith; spelled = rw (take_one code at inside, first) nop }
 
-pub ret_stands : (code : List ℕ) (at : ℕ) → at < length code → get_or code at 0 ≡ 0xC3 → StandsAt code at insn.Ret 1
+pub ret_stands : (code : List ℕ) (at : ℕ) → at < length code → get_or code at 0 ≡ 0xC3 → BeginsAt code at insn.Ret 1
 ret_stands code at inside first = record { inside = omega arith; spelled = rw (take_one code at inside, first) ret }
 
-pub ud2_stands : (code : List ℕ) (at : ℕ) → at + 2 ≤ length code → get_or code at 0 ≡ 0x0F → get_or code (at + 1) 0 ≡ 0x0B → StandsAt code at insn.Ud2 2
+pub ud2_stands : (code : List ℕ) (at : ℕ) → at + 2 ≤ length code → get_or code at 0 ≡ 0x0F → get_or code (at + 1) 0 ≡ 0x0B → BeginsAt code at insn.Ud2 2
 ud2_stands code at inside first second = record { inside = inside; spelled = rw (take_two code at inside, first, second) ud2 }
 
-pub load_stands : (code : List ℕ) (at : ℕ) → at + 6 ≤ length code → get_or code at 0 ≡ 0x8B → get_or code (at + 1) 0 ≡ 0x87 → StandsAt code at (load_eax (displacement (take 4 (drop (at + 2) code)))) 6
-load_stands code at inside first second = record { inside = inside; spelled = rw (take_six code at inside, first, second) (load _ (front_length code (at + 2) 4 (omega arith))) }
+pub load_stands : (code : List ℕ) (at : ℕ) → at + 6 ≤ length code → get_or code at 0 ≡ 0x8B → get_or code (at + 1) 0 ≡ 0x87 → BeginsAt code at (load_eax (displacement (take 4 (drop (at + 2) code)))) 6
+load_stands code at inside first second = record { inside = inside; spelled = rw (take_six code at inside, first, second) (mov_load _ (front_length code (at + 2) 4 (omega arith))) }
 
-pub store_stands : (code : List ℕ) (at : ℕ) → at + 6 ≤ length code → get_or code at 0 ≡ 0x89 → get_or code (at + 1) 0 ≡ 0x87 → StandsAt code at (store_eax (displacement (take 4 (drop (at + 2) code)))) 6
-store_stands code at inside first second = record { inside = inside; spelled = rw (take_six code at inside, first, second) (store _ (front_length code (at + 2) 4 (omega arith))) }
+pub store_stands : (code : List ℕ) (at : ℕ) → at + 6 ≤ length code → get_or code at 0 ≡ 0x89 → get_or code (at + 1) 0 ≡ 0x87 → BeginsAt code at (store_eax (displacement (take 4 (drop (at + 2) code)))) 6
+store_stands code at inside first second = record { inside = inside; spelled = rw (take_six code at inside, first, second) (mov_store _ (front_length code (at + 2) 4 (omega arith))) }
 
 pub displacement_front : (bytes : List ℕ) → displacement (take 4 bytes) ≡ cast_signed w32 (little_number 4 bytes)
 unfolding field
@@ -159,7 +159,7 @@ displacement_at code at = displacement_front (drop at code)
 
 -- a MOV in either direction
 pub mov_stands : (code : List ℕ) (at : ℕ) (loads : Bool) (disp : ℤ) → disp ≡ displacement (take 4 (drop (at + 2) code)) → at + 6 ≤ length code → get_or code at 0 ≡ (if loads then 0x8B else 0x89) → get_or code (at + 1) 0 ≡ 0x87
-    → StandsAt code at (if loads then load_eax disp else store_eax disp) 6
+    → BeginsAt code at (if loads then load_eax disp else store_eax disp) 6
 mov_stands code at true disp is inside first second = rw is (load_stands code at inside first second)
 mov_stands code at false disp is inside first second = rw is (store_stands code at inside first second)
 
@@ -168,6 +168,6 @@ is_mov true b e = inl e
 is_mov false b e = inr e
 
 -- no form begins with this byte
-pub no_form : {code : List ℕ} {at len : ℕ} {i : Insn} → get_or code at 0 ≢ 0x90 → get_or code at 0 ≢ 0xC3 → get_or code at 0 ≢ 0x0F → get_or code at 0 ≢ 0x8B → get_or code at 0 ≢ 0x89 → StandsAt code at i len → ⊥
+pub no_form : {code : List ℕ} {at len : ℕ} {i : Insn} → get_or code at 0 ≢ 0x90 → get_or code at 0 ≢ 0xC3 → get_or code at 0 ≢ 0x0F → get_or code at 0 ≢ 0x8B → get_or code at 0 ≢ 0x89 → BeginsAt code at i len → ⊥
 no_form not_nop not_ret not_escape not_load not_store stands =
     elim (stands_shape stands).opcode [ inl h ↦ not_nop h | inr h ↦ elim h [ inl h ↦ not_ret h | inr h ↦ elim h [ inl h ↦ not_escape h | inr h ↦ elim h [ inl h ↦ not_load h | inr h ↦ not_store h ] ] ] ]

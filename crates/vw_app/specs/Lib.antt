@@ -7,3 +7,4 @@ pub mod Module
 pub mod Machine
 pub mod Permitted
 pub mod Sandboxed
+pub mod Answer

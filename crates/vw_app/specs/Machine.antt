@@ -4,7 +4,7 @@ use Rattle.std.specs.List.{list_any}
 use Rattle.vw_bits.specs.Fields.{load}
 use Rattle.vw_insn.specs.declared.instruction.Insn.{Insn}
 use Rattle.vw_insn.specs.Words.{Registers, Flags}
-use Rattle.vw_insn.specs.Effect.{Open, Access, Write, After, Transfer, Next, Back, Stop, Unstated, reads, effect}
+use Rattle.vw_insn.specs.Effect.{Open, Access, Write, After, Transfer, Next, Back, Stop, Unstated, may_trap, reads, effect}
 use Rattle.vw_app.specs.World.{Range, World, IsWithin, is_within, touches, heap_range, stack_range, guard_range, loaded_range}
 use Rattle.vw_app.specs.Module.{Module, Function, bytes_from}
 use Rattle.vw_app.specs.Spelling.{Spells}
@@ -33,7 +33,7 @@ pub record State : Type 0 where
   -- the activations, the one entered last first
   pub active : List Activation
 
--- what a step leaves open: results and flags of the instruction, and whether an access to the heap traps
+-- what a step leaves open: results and flags of the instruction, and whether it traps where it may
 pub record Choice : Type 0 where
   pub open_results : Open
   pub trap : Bool
@@ -113,10 +113,12 @@ marked w top writes = record top { written = λ q. (is_within q 1 (frame w top) 
 abbrev pub accesses : List Access → List Write → List Access
 accesses rs writes = rs ++ map (λ v. record { at = v.at; size = v.size }) writes
 
--- an access that touches the guard traps, and under the choice so does one to the heap
-abbrev pub traps : World → List Access → Choice → Bool
-traps w all choice =
-    list_any (λ a. touches a.at a.size (guard_range w)) all || (choice.trap && list_any (λ a. touches a.at a.size (heap_range w)) all)
+-- An access that touches the guard traps. Under the choice so does one that touches the heap, and an
+-- instruction that may trap for a reason of its own.
+abbrev pub does_trap : World → Insn → List Access → Choice → Bool
+does_trap w i all choice =
+    list_any (λ a. touches a.at a.size (guard_range w)) all
+    || (choice.trap && (may_trap i || list_any (λ a. touches a.at a.size (heap_range w)) all))
 
 pub data Outcome : Type 0 where
   Went : State → Outcome
@@ -148,7 +150,7 @@ module _ (m : Module) (w : World) where
   step_from s (top ∷ rest) Nowhere choice = Stuck
   step_from s (top ∷ rest) (Code i len) choice =
       let after = after_insn m w s i len choice in
-      if traps w (accesses (reads i (s.rip + len) s.registers) after.writes) choice then Trapped
+      if does_trap w i (accesses (reads i (s.rip + len) s.registers) after.writes) choice then Trapped
       else go w s top rest after (s.rip + len) after.transfer
 
   -- one step, of what stands at rip

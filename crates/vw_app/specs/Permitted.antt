@@ -1,10 +1,10 @@
 -- The events of a step, and which of them a sandbox permits.
 use Rattle.std.specs.Prelude.{◌≡◌, ℕ, ◌+◌, ◌-◌, ◌^◌, ◌<◌, ◌≤◌, ◌⊎◌, Bool, true, if◌then◌else◌, List, [], ◌∷◌, ◌++◌, map}
 use Rattle.vw_insn.specs.declared.instruction.Insn.{Insn}
-use Rattle.vw_insn.specs.Effect.{Access, Write, After, Transfer, Next, Back, Stop, Unstated, reads}
+use Rattle.vw_insn.specs.Effect.{Access, Write, After, Transfer, Next, Back, Stop, Unstated, Way, Ordinary, Return, Unlisted, way, reads}
 use Rattle.vw_app.specs.World.{Range, World, IsWithin, heap_range, globals_range}
 use Rattle.vw_app.specs.Module.{Module, Function}
-use Rattle.vw_app.specs.Machine.{Activation, State, Choice, Here, Code, Nowhere, IsOf, function_range, after_insn, accesses, traps}
+use Rattle.vw_app.specs.Machine.{Activation, State, Choice, Here, Code, Nowhere, IsOf, function_range, after_insn, accesses, does_trap}
 
 pub data Event : Type 0 where
   Reads : (at size : ℕ) → Event
@@ -16,7 +16,7 @@ abbrev pub target : ℕ → Transfer → List Event
 target next Next = Goes next ∷ []
 target next (Back to) = Goes to ∷ []
 target next Stop = []
-target next Unstated = []
+target next Unstated = Goes next ∷ []
 
 module _ (m : Module) (w : World) where
   -- the reads, the writes and then the transfer of the next step; one that traps has no transfer
@@ -27,7 +27,7 @@ module _ (m : Module) (w : World) where
       let read = reads i (s.rip + len) s.registers in
       map (λ a. Reads a.at a.size) read
       ++ map (λ v. Writes v.at v.size) after.writes
-      ++ (if traps w (accesses read after.writes) choice then [] else target (s.rip + len) after.transfer)
+      ++ (if does_trap w i (accesses read after.writes) choice then [] else target (s.rip + len) after.transfer)
 
   -- each of n bytes from a is a byte of the image that may be read
   abbrev pub IsReadable : ℕ → ℕ → Type 0
@@ -55,24 +55,22 @@ module _ (m : Module) (w : World) where
   abbrev pub StaysInside : Activation → ℕ → Type 0
   StaysInside top to = (f : Function) × IsOf m w top f × IsWithin to 1 (function_range w f)
 
-  -- what is permitted to a step that transfers control so
-  abbrev pub MayDo : Activation → Transfer → Event → Type 0
-  MayDo top (Back to) (Reads a n) = (a ≡ top.rsp0) × (n ≡ 8)
-  MayDo top (Back to) (Writes a n) = ⊥
-  MayDo top (Back to) (Goes a) = a ≡ top.back
-  MayDo top Next (Reads a n) = MayRead top a n
-  MayDo top Next (Writes a n) = MayWrite top a n
-  MayDo top Next (Goes a) = StaysInside top a
-  MayDo top Stop (Reads a n) = MayRead top a n
-  MayDo top Stop (Writes a n) = MayWrite top a n
-  MayDo top Stop (Goes a) = ⊥
-  MayDo top Unstated event = ⊥
+  -- what is permitted to an instruction of this kind
+  abbrev pub MayDo : Activation → Way → Event → Type 0
+  MayDo top Ordinary (Reads a n) = MayRead top a n
+  MayDo top Ordinary (Writes a n) = MayWrite top a n
+  MayDo top Ordinary (Goes to) = StaysInside top to
+  -- a return reads its return address, all of it at once and nothing else, and goes there
+  MayDo top Return (Reads a n) = (a ≡ top.rsp0) × (n ≡ 8)
+  MayDo top Return (Writes a n) = ⊥
+  MayDo top Return (Goes to) = to ≡ top.back
+  MayDo top Unlisted event = ⊥
 
-  abbrev pub PermittedFrom : List Activation → State → Here → Choice → Event → Type 0
-  PermittedFrom [] s here choice event = ⊥
-  PermittedFrom (top ∷ rest) s Nowhere choice event = ⊥
-  PermittedFrom (top ∷ rest) s (Code i len) choice event = MayDo top (after_insn m w s i len choice).transfer event
+  abbrev pub PermittedFrom : List Activation → Here → Event → Type 0
+  PermittedFrom [] here event = ⊥
+  PermittedFrom (top ∷ rest) Nowhere event = ⊥
+  PermittedFrom (top ∷ rest) (Code i len) event = MayDo top (way i) event
 
   -- an event of the next step is permitted; where no step is defined, none is
-  abbrev pub Permitted : State → Here → Choice → Event → Type 0
-  Permitted s here choice event = PermittedFrom s.active s here choice event
+  abbrev pub Permitted : State → Here → Event → Type 0
+  Permitted s here event = PermittedFrom s.active here event

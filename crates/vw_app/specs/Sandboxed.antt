@@ -44,7 +44,7 @@ StaysSafe m w entered [] s = Unit {0}
 StaysSafe m w entered (choice ∷ choices) s =
     (here : Here)
     × StandsAt m w s.rip s.active here
-    × AllByRecursion (Permitted m w s here choice) (events m w s here choice)
+    × AllByRecursion (Permitted m w s here) (events m w s here choice)
     × Onward entered (StaysSafe m w entered choices) (step m w s here choice)
 
 -- For every load address and instance, every declared function that the host enters, and every

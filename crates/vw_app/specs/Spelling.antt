@@ -33,6 +33,6 @@ displacement bytes = cast_signed w32 (field bytes 0 4)
 pub data Spells : List ℕ → Insn → Type 0 where
   nop : Spells (0x90 ∷ []) insn.Nop
   ud2 : Spells (0x0F ∷ 0x0B ∷ []) insn.Ud2
-  load : (disp : List ℕ) → length disp ≡ 4 → Spells (0x8B ∷ 0x87 ∷ disp) (load_eax (displacement disp))
-  store : (disp : List ℕ) → length disp ≡ 4 → Spells (0x89 ∷ 0x87 ∷ disp) (store_eax (displacement disp))
+  mov_load : (disp : List ℕ) → length disp ≡ 4 → Spells (0x8B ∷ 0x87 ∷ disp) (load_eax (displacement disp))
+  mov_store : (disp : List ℕ) → length disp ≡ 4 → Spells (0x89 ∷ 0x87 ∷ disp) (store_eax (displacement disp))
   ret : Spells (0xC3 ∷ []) insn.Ret

@@ -11,7 +11,7 @@ use Rattle.vw_insn.specs.declared.instruction.Insn.TheVariants as insn
 use Rattle.vw_app.specs.Spelling.{Spells}
 
 -- The bytes of the code from this point on begin with a spelling of the instruction, `len` bytes long.
-pub record StandsAt (code : List ℕ) (point : ℕ) (i : Insn) (len : ℕ) : Type 0 where
+pub record BeginsAt (code : List ℕ) (point : ℕ) (i : Insn) (len : ℕ) : Type 0 where
   pub inside : point + len ≤ length code
   pub spelled : Spells (take len (drop point code)) i
 
@@ -24,7 +24,7 @@ goes_on _ = false
 -- the points that a walk from a point on comes to
 pub data Comes (code : List ℕ) (from : ℕ) : ℕ → Type 0 where
   here : Comes code from from
-  on : (point len : ℕ) (i : Insn) → Comes code from point → StandsAt code point i len → goes_on i ≡ true → Comes code from (point + len)
+  on : (point len : ℕ) (i : Insn) → Comes code from point → BeginsAt code point i len → goes_on i ≡ true → Comes code from (point + len)
 
 -- the points of the walk of a function, which begins at its first byte
 abbrev pub Reaches : List ℕ → ℕ → Type 0
@@ -46,7 +46,7 @@ memory_of _ = None
 
 -- at each point below the size stands one of the instructions of this version
 abbrev pub IsBuilt : List ℕ → Type 0
-IsBuilt code = (point : ℕ) → Reaches code point → point < length code → (i : Insn) × (len : ℕ) × StandsAt code point i len
+IsBuilt code = (point : ℕ) → Reaches code point → point < length code → (i : Insn) × (len : ℕ) × BeginsAt code point i len
 
 -- the memory operand of the instruction has a negative displacement
 abbrev pub IsNegative : Insn → Type 0
@@ -57,7 +57,7 @@ pub record IsBelowBase (code : List ℕ) (point : ℕ) : Type 0 where
   pub reached : Reaches code point
   pub instruction : Insn
   pub len : ℕ
-  pub stands : StandsAt code point instruction len
+  pub stands : BeginsAt code point instruction len
   pub negative : IsNegative instruction
 
 -- The walk finds nothing: it does not come to the end of the code, and each displacement is at least 0.

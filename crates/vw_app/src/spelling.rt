@@ -1,7 +1,7 @@
 ghost use Rattle.std.specs.Prelude.{◌≡◌, ℕ, ◌+◌, ◌<◌, ◌≤◌, length, take, drop, slice_index, if◌then◌else◌, IfSome, IfNone};
 ghost use Rattle.vw_insn.specs.declared.instruction.Insn.{Insn};
 ghost use Rattle.vw_app.specs.Spelling.{load_eax, store_eax, displacement};
-ghost use Rattle.vw_app.specs.Walk.{StandsAt, goes_on, memory_of, memory_in_place, memory_in_source};
+ghost use Rattle.vw_app.specs.Walk.{BeginsAt, goes_on, memory_of, memory_in_place, memory_in_source};
 
 use byteorder::{ByteOrder, LittleEndian};
 use vw_insn::{Base, Insn, Mem, Place, Reg, Source, Width};
@@ -22,8 +22,8 @@ const MOV_LEN: usize = 6;
 /// of the five forms begins there.
 pub fn form_at(code: &[u8], at: usize) -> Option<(Insn, usize)>
     requires { at < length code.now }
-    ensures found { IfSome result (λ form. StandsAt code.now at form.0 form.1) }
-    ensures none { IfNone result ((i : Insn) (len : ℕ) → StandsAt code.now at i len → ⊥) }
+    ensures found { IfSome result (λ form. BeginsAt code.now at form.0 form.1) }
+    ensures none { IfNone result ((i : Insn) (len : ℕ) → BeginsAt code.now at i len → ⊥) }
 {
     match code[at] {
         NOP => Some((Insn::Nop, 1)),
@@ -38,8 +38,8 @@ pub fn form_at(code: &[u8], at: usize) -> Option<(Insn, usize)>
 fn ud2_at(code: &[u8], at: usize) -> Option<(Insn, usize)>
     requires inside { at < length code.now }
     requires escape { slice_index code.now at ≡ ESCAPE }
-    ensures found { IfSome result (λ form. StandsAt code.now at form.0 form.1) }
-    ensures none { IfNone result ((i : Insn) (len : ℕ) → StandsAt code.now at i len → ⊥) }
+    ensures found { IfSome result (λ form. BeginsAt code.now at form.0 form.1) }
+    ensures none { IfNone result ((i : Insn) (len : ℕ) → BeginsAt code.now at i len → ⊥) }
 {
     let rest = code.len() - at;
     if rest >= 2 && code[at + 1] == UD2 {
@@ -51,8 +51,8 @@ fn ud2_at(code: &[u8], at: usize) -> Option<(Insn, usize)>
 fn mov_at(code: &[u8], at: usize, loads: bool) -> Option<(Insn, usize)>
     requires inside { at < length code.now }
     requires opcode { slice_index code.now at ≡ (if loads then MOV_LOAD else MOV_STORE) }
-    ensures found { IfSome result (λ form. StandsAt code.now at form.0 form.1) }
-    ensures none { IfNone result ((i : Insn) (len : ℕ) → StandsAt code.now at i len → ⊥) }
+    ensures found { IfSome result (λ form. BeginsAt code.now at form.0 form.1) }
+    ensures none { IfNone result ((i : Insn) (len : ℕ) → BeginsAt code.now at i len → ⊥) }
 {
     let rest = code.len() - at;
     if rest >= MOV_LEN && code[at + 1] == EAX_AT_RDI {

@@ -1,10 +1,11 @@
 -- What an instruction does to registers and flags, and what it reads, writes and goes to
 -- (SDM volume 2, "Operation" of each instruction).
 --
--- No instruction reads twice or writes twice. So an effect has two steps: what is read is a function
--- of the registers, and the rest is a function of them and of the one number that was loaded.
+-- The effect of an instruction is the pair of `reads` and `effect`. No instruction reads twice or
+-- writes twice. So what is read is a function of the registers, and the rest is a function of them and
+-- of the one number that was loaded.
 -- `next` is the address of the next instruction.
-use Rattle.std.specs.Prelude.{◌≡◌, ℕ, ◌+◌, ◌-◌, ◌*◌, ◌/◌, ◌%◌, ◌^◌, ◌<◌, ◌==◌, Bool, if◌then◌else◌, ℤ, pos, List, [], ◌∷◌, ◌++◌, Option, Some, None}
+use Rattle.std.specs.Prelude.{◌≡◌, ℕ, ◌+◌, ◌-◌, ◌*◌, ◌/◌, ◌%◌, ◌^◌, ◌<◌, ◌==◌, Bool, true, false, if◌then◌else◌, ℤ, pos, List, [], ◌∷◌, ◌++◌, Option, Some, None}
 use Rattle.vw_insn.specs.declared.registers.Reg.{Reg}
 use Rattle.vw_insn.specs.declared.registers.Reg.TheVariants.{Rsp}
 use Rattle.vw_insn.specs.declared.registers.Width.{Width}
@@ -37,7 +38,7 @@ pub record Write : Type 0 where
   pub size : ℕ
   pub value : ℕ
 
--- Where control goes. There is a case for each way to go that a sandbox permits differently.
+-- where control goes
 pub data Transfer : Type 0 where
   -- on to the next instruction
   Next : Transfer
@@ -45,8 +46,30 @@ pub data Transfer : Type 0 where
   Back : (to : ℕ) → Transfer
   -- nowhere: the instruction traps
   Stop : Transfer
-  -- not stated yet for this instruction, so that nothing of it is permitted
+  -- not stated yet for this instruction
   Unstated : Transfer
+
+-- The kinds of instruction that a sandbox treats differently, by how they transfer control.
+pub data Way : Type 0 where
+  -- on, or to a place that the instruction names
+  Ordinary : Way
+  -- a return
+  Return : Way
+  -- the effect is not stated yet, so that nothing of it is permitted
+  Unlisted : Way
+
+abbrev pub way : Insn → Way
+way (insn.Mov w dst src) = Ordinary
+way insn.Ret = Return
+way insn.Nop = Ordinary
+way insn.Ud2 = Ordinary
+way _ = Unlisted
+
+-- whether the instruction may trap for a reason that is left open, as a division by zero
+abbrev pub may_trap : Insn → Bool
+may_trap (insn.MulDiv op w src) = true
+may_trap (insn.Xmm row wide reg rm imm) = true
+may_trap _ = false
 
 pub record After : Type 0 where
   pub registers : Registers

@@ -1,0 +1,56 @@
+-- From the parts of the program to the answer.
+use Rattle.std.proofs.Common.{◌≡◌, ◌≢◌, ◌⊎◌, inl, inr, ℕ, ◌+◌, ◌-◌, ◌*◌, ◌/◌, ◌^◌, ◌≤◌, ◌<◌, List, [], length, replicate, ◌++◌, length-append, Option, Some, None, IfSome, Bool, true, false, refl, sym, ◌∙◌, ap, subst, arith}
+use Rattle.std.proofs.lemmas.List.{length-drop}
+use Rattle.std.proofs.Math.ListN.{length-replicate}
+use Rattle.vw_app.specs.declared.status.Status.{Status}
+use Rattle.vw_app.specs.Answer.{Reply, usage, read_fault, judged, Judged, safe, unsafe, unbuilt, HasFirstForm, AsksToVerify, AreTold, usage_line, read_fault_line, safe_line, unbuilt_line, unsafe_line}
+use Rattle.vw_app.specs.OneFunction.{IsOneFunction, one_function}
+use Rattle.vw_app.specs.Walk.{IsBuilt, IsSafe, Fails, runs_off, below_base}
+use Rattle.vw_app.proofs.OneFunctions.{known, same_code, length-one_function}
+
+module _ (words : List (List ℕ)) (told : Option (List ℕ)) (fault : Type 0) (Wrote : List ℕ → Type 0) where
+  -- the answer that was written whole
+  pub replied : (result status : Status) (text : List ℕ) → Reply words told fault status.0 text → (result.0 ≢ 5 → (result ≡ status) × Wrote text) → result.0 ≢ 5 → result.0 ≢ 6 → (text : List ℕ) × Wrote text × Reply words told fault result.0 text
+  replied result status text reply done not_five not_six =
+      let whole = done not_five in
+      (text, whole.1, subst (λ (s : Status). Reply words told fault s.0 text) (sym whole.0) reply)
+
+  -- the answer that was not written whole
+  pub cut_short : (result : ℕ) (status : Status) (text : List ℕ) (Counted : Type 0) → Reply words told fault status.0 text → (result ≡ 5 → Counted × Wrote text) → result ≡ 5 → Counted × (status : ℕ) × (text : List ℕ) × Wrote text × Reply words told fault status text
+  cut_short result status text Counted reply failed is = let f = failed is in (f.0, status.0, text, f.1, reply)
+
+-- a file that is longer than every module has no first form
+pub too_long : (told : Option (List ℕ)) → IfSome told (λ bytes. 2 ^ 26 < length bytes) → (file : List ℕ) × AreTold told file × Judged file 8 unbuilt_line
+too_long None long = ([], tt, unbuilt (λ code form. omega (arith, (known form.one_function).within)))
+too_long (Some bytes) long = (bytes, refl, unbuilt (λ code form. omega (arith, long, length-one_function code, ap length form.one_function.same, form.one_function.short)))
+
+pub Fails-built : {code : List ℕ} {at check : ℕ} → Fails code at check → IsBuilt code
+Fails-built (runs_off built reaches) = built
+Fails-built (below_base point built stays below lowest) = built
+
+-- the verdict for each way that a file is looked at
+
+pub judged_safe : {file code : List ℕ} → IsOneFunction file code → IsSafe code → Judged file 0 safe_line
+judged_safe {file} {code} is found = safe code (record { one_function = is; built = found.built }) found
+
+pub judged_unsafe : {file code : List ℕ} {at check : ℕ} → IsOneFunction file code → Fails code at check → Judged file 1 (unsafe_line at check)
+judged_unsafe {file} {code} {at} {check} is found = unsafe code at check (record { one_function = is; built = Fails-built found }) found
+
+pub judged_unbuilt : {file code : List ℕ} → IsOneFunction file code → (IsBuilt code → ⊥) → Judged file 8 unbuilt_line
+judged_unbuilt {file} {code} is not_built =
+    unbuilt (λ (other : List ℕ) form. not_built (subst IsBuilt (same_code form.one_function is) form.built))
+
+pub judged_other : {file : List ℕ} → ((code : List ℕ) → IsOneFunction file code → ⊥) → Judged file 8 unbuilt_line
+judged_other none = unbuilt (λ (code : List ℕ) form. none code form.one_function)
+
+-- the answer to a file that was read, lent piece by piece
+pub reply_to : {words : List (List ℕ)} {told : Option (List ℕ)} {fault : Type 0} (file lent : List ℕ) (status : ℕ) (made text : List ℕ) → AsksToVerify words → AreTold told file → lent ≡ file → text ≡ made → Judged lent status made → Reply words told fault status text
+reply_to {words} {told} {fault} file lent status made text asks are_told is same verdict =
+    subst (λ (t : List ℕ). Reply words told fault status t) (sym same) (judged file status made asks are_told (subst (λ (f : List ℕ). Judged f status made) is verdict))
+
+-- the answer to a file that is too long
+pub reply_too_long : {words : List (List ℕ)} {fault : Type 0} (told : Option (List ℕ)) → AsksToVerify words → IfSome told (λ bytes. 2 ^ 26 < length bytes) → Reply words told fault 8 unbuilt_line
+reply_too_long told asks long = let t = too_long told long in judged t.0 8 unbuilt_line asks t.1 t.2
+
+pub denied : {A : Type 0} (b : Bool) → b ≡ false → (A → b ≡ true) → A → ⊥
+denied b is_false then a = let both : true ≡ false = sym (then a) ∙ is_false in cc

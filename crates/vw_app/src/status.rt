@@ -1,0 +1,20 @@
+/// The exit status of the program.
+#[derive(Clone, Copy, Debug, PartialEq, Eq)]
+pub struct Status(pub u8);
+
+impl Status {
+    /// Done, or safe.
+    pub const SAFE: Status = Status(0);
+    /// A check fails.
+    pub const UNSAFE: Status = Status(1);
+    /// The words are none of the program's forms.
+    pub const USAGE: Status = Status(3);
+    /// A file was not read.
+    pub const READ_FAULT: Status = Status(4);
+    /// The answer was not written whole.
+    pub const WRITE_FAULT: Status = Status(5);
+    /// Memory was refused.
+    pub const OUT_OF_MEMORY: Status = Status(6);
+    /// This version does not judge the file.
+    pub const NOT_BUILT: Status = Status(8);
+}
