@@ -3,3 +3,5 @@ pub mod Walks
 pub mod Pieces
 pub mod OneFunctions
 pub mod Answers
+pub mod Instances
+pub mod Runs

@@ -1,8 +1,8 @@
 -- The file of one function: its fields, and where its code is.
-use Rattle.std.proofs.Common.{◌≡◌, ◌⊎◌, ℕ, ◌+◌, ◌-◌, ◌*◌, ◌^◌, ◌≤◌, ◌<◌, List, [], ◌++◌, length, take, drop, append_assoc, length-append, refl, sym, ◌∙◌, ap, subst, arith, lit<}
-use Rattle.std.proofs.lemmas.List.{length-drop}
+use Rattle.std.proofs.Common.{◌≡◌, ◌⊎◌, ℕ, ◌+◌, ◌-◌, ◌*◌, ◌^◌, ◌≤◌, ◌<◌, List, [], ◌++◌, length, get_or, take, drop, append_assoc, length-append, refl, sym, ◌∙◌, ap, subst, arith, lit<}
+use Rattle.std.proofs.lemmas.List.{length-drop, get_or-drop}
 use Rattle.std.proofs.Math.Seq.{take-append_seam}
-use Rattle.std.proofs.Math.ListN.{length-replicate}
+use Rattle.std.proofs.Math.ListN.{length-replicate, get_or-append}
 use Rattle.byteorder.specs.Numbers.{little_number-reads_back}
 use Rattle.byteorder.specs.Endian.{little_bytes, little_number}
 use Rattle.vw_bits.specs.Fields.{field}
@@ -61,3 +61,8 @@ pub same_code : {file code other : List ℕ} → IsOneFunction file code → IsO
 same_code {file} {code} {other} is also =
     let size : length code ≡ length other = omega (arith, sym (known is).sized ∙ (known also).sized) in
     sym (known is).found ∙ (ap (λ (n : ℕ). take n (drop 120 file)) size ∙ (known also).found)
+
+-- a byte of the code in the file
+pub byte_of_code : (code : List ℕ) (point : ℕ) → point < length code → get_or (one_function code) (120 + point) 0 ≡ get_or code point 0
+byte_of_code code point inside =
+    sym (get_or-drop 120 (one_function code) point 0) ∙ (ap (λ (bytes : List ℕ). get_or bytes point 0) (code_on code) ∙ get_or-append code (behind code) 0 point inside)

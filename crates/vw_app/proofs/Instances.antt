@@ -1,0 +1,40 @@
+-- Addresses in an instance that is laid out well.
+use Rattle.std.proofs.Common.{◌≡◌, ◌≢◌, ◌⊎◌, inl, inr, ℤ, pos, negsuc, ◌<ℤ◌, ℕ, zero, suc, ◌+◌, ◌-◌, ◌*◌, ◌%◌, ◌^◌, ◌≤◌, ◌<◌, ◌==◌, ◌&&◌, Bool, true, false, if◌then◌else◌, List, [], ◌∷◌, length, get_or, take, drop, slice_index, refl, sym, ◌∙◌, ap, subst, arith, lit<, w32}
+use Rattle.std.proofs.lemmas.Int.{ints}
+use Rattle.std.specs.Prelude.{nat_le, nat_lt}
+use Rattle.std.proofs.lemmas.Bool.Decides.{nat_tests}
+use mir.Val.{SFits}
+use Rattle.vw_bits.specs.Fields.{load}
+use Rattle.vw_insn.specs.Words.{word_of}
+use Rattle.vw_insn.specs.Effect.{Write}
+use Rattle.vw_app.specs.World.{Range, World, IsLaidOut, IsIn, IsWithin, is_within, AreApart, stack_range, heap_range, instance_ranges}
+use Rattle.vw_app.specs.Machine.{stored, is_in_write, Bytes}
+
+module _ {image : List Range} {imports : ℕ} {w : World} (laid : IsLaidOut image imports w) where
+  pub heap_ends : w.heap + 2 ^ 33 ≤ 2 ^ 47
+  heap_ends =
+      let top : w.heap + 2 ^ 33 - 1 < 2 ^ 47 = laid.instance_ends.0 (w.heap + 2 ^ 33 - 1) (omega arith, omega arith) in
+      omega arith
+
+  pub stack_ends : w.stack_high ≤ 2 ^ 47
+  stack_ends =
+      let room = laid.stack_room in
+      let top : w.stack_high - 1 < 2 ^ 47 = laid.instance_ends.1.1.0 (w.stack_high - 1) (omega arith, omega arith) in
+      omega arith
+
+  -- no address is in the heap, or the word before it, and in the stack
+  pub heap_or_stack : (a : ℕ) → w.heap - 8 ≤ a → a < w.heap + 2 ^ 33 → w.stack_low ≤ a → a < w.stack_high → ⊥
+  heap_or_stack a one two three four =
+      let heap : Range = record { from = w.heap - 8; to = w.heap + 2 ^ 33 } in
+      laid.instance_apart 0 2 heap (lit< tt) (lit< tt) a (one, two) (omega arith, four)
+
+-- an access at the heap's base plus a displacement that is at least 0
+pub heap_address : (heap r : ℕ) (disp : ℤ) → r ≡ heap → SFits w32 disp → (disp <ℤ pos 0 → ⊥) → heap + 2 ^ 33 ≤ 2 ^ 47 → (heap ≤ (r + word_of disp) % 2 ^ 64) × ((r + word_of disp) % 2 ^ 64 + 4 ≤ heap + 2 ^ 33)
+heap_address heap r (pos n) is fits above ends = let small = fits.sfits in (omega arith, omega arith)
+heap_address heap r (negsuc n) is fits above ends = absurd (above (omega (arith, ints)))
+
+-- a number that is loaded depends on its bytes alone
+pub load_same : (old new : Bytes) (a n : ℕ) → ((q : ℕ) → a ≤ q → q < a + n → new q ≡ old q) → load new a n ≡ load old a n
+load_same old new a zero same = refl
+load_same old new a (suc n) same =
+    rw (same a (omega arith) (omega arith), load_same old new (a + 1) n (λ q low high. same q (omega arith) (omega arith))) refl
