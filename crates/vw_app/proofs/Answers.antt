@@ -1,11 +1,13 @@
 -- From the parts of the program to the answer.
-use Rattle.std.proofs.Common.{◌≡◌, ◌≢◌, ◌⊎◌, inl, inr, ℕ, ◌+◌, ◌-◌, ◌*◌, ◌/◌, ◌^◌, ◌≤◌, ◌<◌, List, [], length, replicate, ◌++◌, length-append, Option, Some, None, IfSome, Bool, true, false, refl, sym, ◌∙◌, ap, subst, arith}
-use Rattle.std.proofs.lemmas.List.{length-drop}
+use Rattle.std.proofs.Common.{◌≡◌, ◌≢◌, ◌⊎◌, inl, inr, ℕ, ◌+◌, ◌-◌, ◌*◌, ◌/◌, ◌^◌, ◌≤◌, ◌<◌, List, [], length, get_or, take, drop, Fits, w8, replicate, ◌++◌, length-append, Option, Some, None, IfSome, Bool, true, false, refl, sym, ◌∙◌, ap, subst, arith}
+use Rattle.std.proofs.lemmas.List.{length-drop, get_or-drop}
 use Rattle.std.proofs.Math.ListN.{length-replicate}
 use Rattle.vw_app.specs.declared.status.Status.{Status}
 use Rattle.vw_app.specs.Answer.{Reply, usage, read_fault, judged, Judged, safe, unsafe, unbuilt, HasFirstForm, AsksToVerify, AreTold, usage_line, read_fault_line, safe_line, unbuilt_line, unsafe_line}
 use Rattle.vw_app.specs.OneFunction.{IsOneFunction, one_function}
 use Rattle.vw_app.specs.Walk.{IsBuilt, IsSafe, Fails, runs_off, below_base}
+use Rattle.vw_app.specs.Sandboxed.{IsSandboxedFile}
+use Rattle.vw_app.proofs.Runs.{sandboxed, take_bytes}
 use Rattle.vw_app.proofs.OneFunctions.{known, same_code, length-one_function}
 
 module _ (words : List (List ℕ)) (told : Option (List ℕ)) (fault : Type 0) (Wrote : List ℕ → Type 0) where
@@ -54,3 +56,23 @@ reply_too_long told asks long = let t = too_long told long in judged t.0 8 unbui
 
 pub denied : {A : Type 0} (b : Bool) → b ≡ false → (A → b ≡ true) → A → ⊥
 denied b is_false then a = let both : true ≡ false = sym (then a) ∙ is_false in cc
+
+-- the code of a file is made of bytes, as the file is
+pub code_is_bytes : {file code : List ℕ} → IsOneFunction file code → ((i : ℕ) → Fits w8 (get_or file i 0)) → (k : ℕ) → get_or code k 0 < 256
+code_is_bytes {file} {code} is are_bytes k =
+    rw (← (known is).found) (take_bytes (length code) (drop 120 file) (λ j. rw (get_or-drop 120 file j 0) (are_bytes (120 + j)).fits) k)
+
+pub sandboxed_file : {file code : List ℕ} → IsOneFunction file code → ((i : ℕ) → Fits w8 (get_or file i 0)) → IsSafe code → IsSandboxedFile file
+sandboxed_file {file} {code} is are_bytes found = (code, is, sandboxed code (code_is_bytes is are_bytes) is.some found)
+
+-- an answer of status 0 is that of a file that was read
+pub safe_reply : (told : Option (List ℕ)) (result status : Status) (file lent : List ℕ) {Rest : Type 0} → AreTold told file → lent ≡ file → (result.0 ≢ 5 → (result ≡ status) × Rest) → (status.0 ≡ 0 → IsSandboxedFile lent) → result.0 ≡ 0 → (file : List ℕ) × AreTold told file × IsSandboxedFile file
+safe_reply told result status file lent are_told same done found zero =
+    let whole = done (λ five. absurd (omega arith)) in
+    (file, are_told, subst IsSandboxedFile same (found (sym (ap (λ (s : Status). s.0) whole.0) ∙ zero)))
+
+-- an answer of another status is not safe
+pub unsafe_reply : {A : Type 0} (result status : Status) {Rest : Type 0} → (status.0 ≡ 0 → ⊥) → (result.0 ≢ 5 → (result ≡ status) × Rest) → result.0 ≡ 0 → A
+unsafe_reply result status other done zero =
+    let whole = done (λ five. absurd (omega arith)) in
+    absurd (other (sym (ap (λ (s : Status). s.0) whole.0) ∙ zero))

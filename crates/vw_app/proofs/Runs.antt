@@ -76,7 +76,7 @@ displacement_fits : (disp : List ℕ) → ((k : ℕ) → get_or disp k 0 < 256) 
 unfolding field
 displacement_fits disp are_bytes = sfits_to_z {w = w32} {n = load (slice_index disp) 0 4} (record { fits = let a = are_bytes 0 in let b = are_bytes 1 in let c = are_bytes 2 in let d = are_bytes 3 in omega arith })
 
-take_bytes : (len : ℕ) (xs : List ℕ) → ((k : ℕ) → get_or xs k 0 < 256) → (k : ℕ) → get_or (take len xs) k 0 < 256
+pub take_bytes : (len : ℕ) (xs : List ℕ) → ((k : ℕ) → get_or xs k 0 < 256) → (k : ℕ) → get_or (take len xs) k 0 < 256
 take_bytes zero xs h k = lit< tt
 take_bytes (suc n) [] h k = lit< tt
 take_bytes (suc n) (x ∷ xs) h zero = h 0

@@ -4,7 +4,8 @@ use Rattle.std.specs.List.{AllByRecursion}
 use Rattle.vw_bits.specs.Fields.{load}
 use Rattle.vw_insn.specs.Words.{Registers}
 use Rattle.vw_app.specs.World.{World, IsLaidOut}
-use Rattle.vw_app.specs.Module.{Module, Function}
+use Rattle.vw_app.specs.OneFunction.{IsOneFunction}
+use Rattle.vw_app.specs.Module.{Module, Function, module_of}
 use Rattle.vw_app.specs.Machine.{Activation, State, Choice, Here, StandsAt, Outcome, Went, Returned, Trapped, step}
 use Rattle.vw_app.specs.Permitted.{events, Permitted}
 
@@ -53,3 +54,7 @@ abbrev pub IsSandboxed : Module → Type 0
 IsSandboxed m =
     (w : World) → IsLaidOut m.image m.imports w → (f : Function) → Contains m.functions f → (s : State) → IsInitial w f s
     → (choices : List Choice) → StaysSafe m w s.registers choices s
+
+-- the file is a module that stays in its sandbox
+abbrev pub IsSandboxedFile : List ℕ → Type 0
+IsSandboxedFile file = (code : List ℕ) × IsOneFunction file code × IsSandboxed (module_of code)

@@ -1,7 +1,8 @@
 ghost use Rattle.std.specs.Prelude.{◌≡◌, ◌≢◌, ℕ, ◌^◌, ◌≤◌, ◌<◌, ◌⊎◌, ◌↔◌, List, length, map, string_bytes, true, Some, IsTrue, IfOk, IfSome};
 ghost use Rattle.vw_outside.specs.Shelf.{Rose};
 ghost use Rattle.vw_outside.specs.Sink.{Appended, AppendedFront};
-ghost use Rattle.vw_app.specs.Answer.{Judged, AsksToVerify, Reply, ReadFailed, standard_input, unsafe_line};
+ghost use Rattle.vw_app.specs.Answer.{Judged, AreTold, AsksToVerify, Reply, ReadFailed, standard_input, unsafe_line};
+ghost use Rattle.vw_app.specs.Sandboxed.{IsSandboxedFile};
 ghost use Rattle.vw_app.specs.Found.{check_number};
 
 use crate::check::Check;
@@ -36,6 +37,9 @@ pub fn run<F: Shelf, K: Sink>(
         × Reply (map string_bytes words.now) (F.told shelf.old standard_input)
             (ReadFailed (F.faults shelf.old) (F.faults shelf.new) (F.opened shelf.new) (F.failed shelf.new))
             result.0 text }
+
+    // Where the answer is safe, every run of every instance stays in its sandbox.
+    ensures safe { result.0 ≡ 0 → (file : List ℕ) × AreTold (F.told shelf.old standard_input) file × IsSandboxedFile file }
 
     // A write failed: a front part of the text of the status that is replaced was written.
     ensures write_fault { result.0 ≡ 5
@@ -81,6 +85,7 @@ fn is_text(word: &String, text: &str) -> bool
 /// The status and the line for the bytes of a file.
 fn judge(alloc: Global, file: &[u8]) -> Result<(Status, Text), OutOfMemory>
     ensures judged { IfOk result (λ reply. Judged file.now reply.0.0 reply.1) }
+    ensures safe { IfOk result (λ reply. reply.0.0 ≡ 0 → IsSandboxedFile file.now) }
     ensures no_fault { IfOk result (λ reply. reply.0.0 ≢ 5) }
 {
     let Some(code) = code_of(alloc, file)? else {

@@ -1,6 +1,6 @@
 use Rattle.std.proofs.Common.{ℕ, List, sym, subst}
 use Rattle.vw_app.specs.Answer.{Judged, safe_line, unbuilt_line}
-use Rattle.vw_app.proofs.Answers.{judged_safe, judged_unsafe, judged_unbuilt, judged_other}
+use Rattle.vw_app.proofs.Answers.{judged_safe, judged_unsafe, judged_unbuilt, judged_other, sandboxed_file}
 use Rattle.vw_app.proofs.program.judge.Goals as goal
 
 pub returns-in_default-clause-judged : goal.returns-in_default-clause-judged
@@ -21,3 +21,6 @@ pub returns-in_ok-text_of-in-NotBuilt-clause-judged : goal.returns-in_ok-text_of
 unfolding unbuilt_line
 returns-in_ok-text_of-in-NotBuilt-clause-judged c =
     subst (λ (text : List ℕ). Judged c.args.file.now 8 text) (sym c.in_ok-text_of-in-NotBuilt.ensures) (judged_unbuilt (rw c.in-Some.is at c.in_ok-code.ensures.found) c.in-NotBuilt.ensures)
+
+pub returns-in_ok-text_of-in-Safe-clause-safe : goal.returns-in_ok-text_of-in-Safe-clause-safe
+returns-in_ok-text_of-in-Safe-clause-safe c zero = sandboxed_file (rw c.in-Some.is at c.in_ok-code.ensures.found) c.type_inv.file c.in-Safe.ensures
