@@ -1,5 +1,5 @@
 -- Files of a shelf in memory.
-use Rattle.std.proofs.Common.{◌≡◌, ℕ, ◌<◌, ◌≤◌, ◌⊎◌, inl, inr, Bool, true, false, cond, List, [], length, get_or, sym, ◌∙◌, ap, refl, arith}
+use Rattle.std.proofs.Common.{◌≡◌, ℕ, ◌<◌, inl, inr, Bool, cond, List, [], length, get_or, sym, ◌∙◌, ap, refl, arith}
 use Rattle.std.specs.Prelude.{Option, Some, None, MatchOption, option_map, unwrap_or, slice_get, find, nat_lt}
 use Rattle.std.specs.List.{position_or_len}
 use Rattle.std.specs.Str.{bytes_eq}

@@ -1,9 +1,9 @@
 -- Bytes that are written or read piece by piece.
-use Rattle.std.proofs.Common.{◌≡◌, ℕ, ◌+◌, ◌-◌, ◌≤◌, ◌<◌, ◌⊎◌, inl, inr, List, [], ◌++◌, length, take, drop, sym, ◌∙◌, ap, arith, is_some, append_assoc, length-append, length-drop}
-use Rattle.std.specs.Prelude.{Option, Some, None, IfSome}
-use Rattle.std.proofs.lemmas.List.{length-take-le, take-append-drop, take_all}
+use Rattle.std.proofs.Common.{◌≡◌, ℕ, ◌+◌, ◌-◌, ◌≤◌, List, ◌++◌, length, take, drop, sym, ◌∙◌, ap, arith, is_some, append_assoc, length-drop}
+use Rattle.std.specs.Prelude.{Option, Some, None}
+use Rattle.std.proofs.lemmas.List.{take_all}
 use Rattle.std.proofs.Math.Seq.{take-add}
-use Rattle.vw_outside.specs.Sink.{Appended, Took}
+use Rattle.vw_outside.specs.Sink.{Appended}
 
 -- what a loop of writes keeps: the first `done` bytes of `piece` were appended
 pub record WrittenSoFar (old new : Option (List ℕ)) (faults_old faults_new : ℕ) (piece : List ℕ) (done : ℕ) : Type 0 where

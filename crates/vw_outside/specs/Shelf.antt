@@ -1,5 +1,5 @@
 -- Meanings of a shelf: named files that are opened and read from the front.
-use Rattle.std.specs.Prelude.{◌≡◌, ℕ, ◌+◌, ◌-◌, ◌^◌, ◌<◌, ◌≤◌, ◌↔◌, ◌⊎◌, List, [], length, take, drop, Option, Some, None, IfSome}
+use Rattle.std.specs.Prelude.{◌≡◌, ℕ, ◌-◌, ◌^◌, ◌<◌, ◌≤◌, ◌↔◌, ◌⊎◌, List, [], length, take, drop, Option, Some, None, IfSome}
 
 -- A counter of 64 bits counted an event: it is higher, or stands still at its type's end.
 abbrev pub Rose : ℕ → ℕ → Type 0

@@ -1,4 +1,4 @@
-use Rattle.std.proofs.Common.{◌≡◌, ℕ, ◌≤◌, ◌-◌, length, List, false}
+use Rattle.std.proofs.Common.{◌-◌, length}
 use Rattle.vw_outside.proofs.ReadLoop.{ReadSoFar}
 use Rattle.vw_outside.proofs.reading.read_opened.Given as goal
 

@@ -1,5 +1,4 @@
-use Rattle.std.proofs.Common.{length, take, ◌-◌, ◌≡◌, ◌≤◌, is_some}
-use Rattle.vw_outside.specs.Sink.{Appended}
+use Rattle.std.proofs.Common.{length, ◌-◌}
 use Rattle.vw_outside.proofs.Pieces.{WrittenSoFar}
 use Rattle.vw_outside.proofs.writing.write_all_of.Given as goal
 
