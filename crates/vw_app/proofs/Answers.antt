@@ -76,3 +76,28 @@ pub unsafe_reply : {A : Type 0} (result status : Status) {Rest : Type 0} → (st
 unsafe_reply result status other done zero =
     let whole = done (λ five. absurd (omega arith)) in
     absurd (other (sym (ap (λ (s : Status). s.0) whole.0) ∙ zero))
+
+-- two findings of one walk agree
+fails_once : {code : List ℕ} {at check at' check' : ℕ} → Fails code at check → Fails code at' check' → (at ≡ at') × (check ≡ check')
+fails_once (runs_off built reaches) (runs_off built' reaches') = (refl, refl)
+fails_once (runs_off built reaches) (below_base point built' stays' below' lowest') = absurd (stays' reaches)
+fails_once (below_base point built stays below lowest) (runs_off built' reaches') = absurd (stays reaches')
+fails_once (below_base point built stays below lowest) (below_base point' built' stays' below' lowest') =
+    let one = lowest point' below' in let two = lowest' point below in (omega arith, refl)
+
+safe_or_fails : {code : List ℕ} {at check : ℕ} → IsSafe code → Fails code at check → ⊥
+safe_or_fails found (runs_off built reaches) = found.stays reaches
+safe_or_fails found (below_base point built stays below lowest) = found.above point below
+
+pub answers_once : {file : List ℕ} {status other : ℕ} {text other_text : List ℕ} → Judged file status text → Judged file other other_text → (status ≡ other) × (text ≡ other_text)
+answers_once (safe code form found) (safe code' form' found') = (refl, refl)
+answers_once (safe code form found) (unsafe code' at' check' form' found') = absurd (safe_or_fails found (subst (λ (c : List ℕ). Fails c at' check') (same_code form'.one_function form.one_function) found'))
+answers_once (safe code form found) (unbuilt none) = absurd (none code form)
+answers_once (unsafe code at check form found) (safe code' form' found') = absurd (safe_or_fails found' (subst (λ (c : List ℕ). Fails c at check) (same_code form.one_function form'.one_function) found))
+answers_once (unsafe code at check form found) (unsafe code' at' check' form' found') =
+    let once = fails_once found (subst (λ (c : List ℕ). Fails c at' check') (same_code form'.one_function form.one_function) found') in
+    (refl, ap (λ (a : ℕ). unsafe_line a check) once.0 ∙ ap (λ (c : ℕ). unsafe_line at' c) once.1)
+answers_once (unsafe code at check form found) (unbuilt none) = absurd (none code form)
+answers_once (unbuilt none) (safe code form found) = absurd (none code form)
+answers_once (unbuilt none) (unsafe code at check form found) = absurd (none code form)
+answers_once (unbuilt none) (unbuilt none') = (refl, refl)

@@ -5,3 +5,4 @@ pub mod OneFunctions
 pub mod Answers
 pub mod Instances
 pub mod Runs
+pub mod LawLemmas

@@ -1,5 +1,5 @@
 -- What the first bytes of a spelling are, and that at most one stands at a point.
-use Rattle.std.proofs.Common.{◌≡◌, ◌≢◌, ◌⊎◌, inl, inr, ℤ, ℕ, suc, ◌+◌, ◌≤◌, ◌<◌, ◌==◌, ◌||◌, Bool, true, false, if◌then◌else◌, List, [], ◌∷◌, length, take, drop, get_or, refl, sym, ◌∙◌, ap, subst, arith, rules, add-zero, lit<}
+use Rattle.std.proofs.Common.{◌≡◌, ◌≢◌, ◌⊎◌, inl, inr, ℤ, ℕ, zero, suc, ◌+◌, ◌≤◌, ◌<◌, ◌==◌, ◌||◌, Bool, true, false, if◌then◌else◌, List, [], ◌∷◌, length, take, drop, get_or, refl, sym, ◌∙◌, ap, subst, arith, rules, add-zero, lit<}
 use Rattle.std.proofs.lemmas.Bool.Decides.{nat_tests}
 use Rattle.std.proofs.lemmas.List.{drop_more, get_or-drop, get_or-take, length-take, length-drop}
 use Rattle.std.specs.Int.{cast_signed, w32}
@@ -9,6 +9,7 @@ use Rattle.vw_insn.specs.declared.instruction.Insn.{Insn}
 use Rattle.vw_insn.specs.declared.instruction.Insn.TheVariants as insn
 use Rattle.vw_app.specs.Spelling.{Spells, nop, ud2, mov_load, mov_store, ret, load_eax, store_eax, displacement}
 use Rattle.vw_app.specs.Walk.{BeginsAt}
+use Rattle.vw_app.specs.Module.{bytes_from}
 
 pub take_one : (xs : List ℕ) (i : ℕ) → i < length xs → take 1 (drop i xs) ≡ get_or xs i 0 ∷ []
 take_one xs i h = rw (drop_more xs i 0 h) refl
@@ -66,16 +67,19 @@ spelled_shape ud2 = record { opcode = inr (inr (inl refl)); sized = refl; after_
 spelled_shape (mov_load disp four) = record { opcode = inr (inr (inr (inl refl))); sized = six disp four; after_escape = λ h. absurd (omega arith); after_load = λ h. refl; after_store = λ h. absurd (omega arith) }
 spelled_shape (mov_store disp four) = record { opcode = inr (inr (inr (inr refl))); sized = six disp four; after_escape = λ h. absurd (omega arith); after_load = λ h. absurd (omega arith); after_store = λ h. refl }
 
+pub size_by-pos : (b : ℕ) → 0 < size_by b
+unfolding size_by
+size_by-pos b = grind (arith, nat_tests)
+
+never_empty : {i : Insn} → Spells [] i → ⊥
+never_empty spells = omega (arith, (spelled_shape spells).sized, size_by-pos 0)
+
 -- the shape of what stands at a point of the code
 pub record StandsShape (code : List ℕ) (at len : ℕ) : Type 0 where
   pub opcode : (get_or code at 0 ≡ 0x90) ⊎ ((get_or code at 0 ≡ 0xC3) ⊎ ((get_or code at 0 ≡ 0x0F) ⊎ ((get_or code at 0 ≡ 0x8B) ⊎ (get_or code at 0 ≡ 0x89))))
   pub sized : len ≡ size_by (get_or code at 0)
   pub escape : get_or code at 0 ≡ 0x0F → (at + 2 ≤ length code) × (get_or code (at + 1) 0 ≡ 0x0B)
   pub moves : (get_or code at 0 ≡ 0x8B) ⊎ (get_or code at 0 ≡ 0x89) → (at + 6 ≤ length code) × (get_or code (at + 1) 0 ≡ 0x87)
-
-pub size_by-pos : (b : ℕ) → 0 < size_by b
-unfolding size_by
-size_by-pos b = grind (arith, nat_tests)
 
 size_by-escape : (b : ℕ) → b ≡ 0x0F → size_by b ≡ 2
 unfolding size_by
@@ -171,3 +175,15 @@ is_mov false b e = inr e
 pub no_form : {code : List ℕ} {at len : ℕ} {i : Insn} → get_or code at 0 ≢ 0x90 → get_or code at 0 ≢ 0xC3 → get_or code at 0 ≢ 0x0F → get_or code at 0 ≢ 0x8B → get_or code at 0 ≢ 0x89 → BeginsAt code at i len → ⊥
 no_form not_nop not_ret not_escape not_load not_store stands =
     elim (stands_shape stands).opcode [ inl h ↦ not_nop h | inr h ↦ elim h [ inl h ↦ not_ret h | inr h ↦ elim h [ inl h ↦ not_escape h | inr h ↦ elim h [ inl h ↦ not_load h | inr h ↦ not_store h ] ] ] ]
+
+length-bytes_from : (f : ℕ → ℕ) (a n : ℕ) → length (bytes_from f a n) ≡ n
+length-bytes_from f a zero = refl
+length-bytes_from f a (suc n) = omega (arith, length-bytes_from f (a + 1) n)
+
+-- Bytes from an address on spell at most one instruction.
+pub spelled_once : (f : ℕ → ℕ) (a len other : ℕ) {i j : Insn} → Spells (bytes_from f a len) i → Spells (bytes_from f a other) j → (i ≡ j) × (len ≡ other)
+spelled_once f a zero other one two = absurd (never_empty one)
+spelled_once f a (suc n) zero one two = absurd (never_empty two)
+spelled_once f a (suc n) (suc m) one two =
+    let same : suc n ≡ suc m = (sym (length-bytes_from f a (suc n)) ∙ (spelled_shape one).sized) ∙ (sym (spelled_shape two).sized ∙ length-bytes_from f a (suc m)) in
+    (spelled_meaning one ∙ (ap (λ (k : ℕ). meaning (bytes_from f a k)) same ∙ sym (spelled_meaning two)), same)

@@ -8,3 +8,4 @@ pub mod Machine
 pub mod Permitted
 pub mod Sandboxed
 pub mod Answer
+pub mod Laws

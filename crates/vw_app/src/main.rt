@@ -2,6 +2,7 @@
 #![tactic(auto)]
 
 mod check;
+mod laws;
 mod one_function;
 mod program;
 mod spelling;
