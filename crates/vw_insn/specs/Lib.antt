@@ -1,0 +1,4 @@
+pub mod Listed
+pub mod Names
+pub mod XmmNames
+pub mod Text

@@ -3,13 +3,19 @@
 #![tactic(auto)]
 
 mod instruction;
+mod mnemonics;
+mod names;
 mod operands;
 mod operations;
+mod printed;
+mod printing;
 mod registers;
 mod xmm;
+mod xmm_names;
 
 pub use instruction::Insn;
 pub use operands::{Base, Count, Mem, Place, Source, XmmOperand};
 pub use operations::{AluOp, BitsOp, Cond, MulDivOp, ShiftOp, UnaryOp};
+pub use printing::text;
 pub use registers::{HighReg, Reg, Width};
 pub use xmm::XmmRow;

@@ -298,7 +298,7 @@ rows =
     row 231 pre.P66 map.Two 0x10 false None form.Any (kind.Xmm xmm.MovupdLoad) ops.Xmm size.Narrow imm.None ∷
     row 232 pre.PF3 map.Two 0x10 false None form.Any (kind.Xmm xmm.MovssLoad) ops.Xmm size.Narrow imm.None ∷
     row 233 pre.PF2 map.Two 0x10 false None form.Any (kind.Xmm xmm.MovsdLoad) ops.Xmm size.Narrow imm.None ∷
-    -- 0F 11, the same, to memory
+    -- 0F 11, the same, the other way
     row 234 pre.Plain map.Two 0x11 false None form.Any (kind.Xmm xmm.MovupsStore) ops.Xmm size.Narrow imm.None ∷
     row 235 pre.P66 map.Two 0x11 false None form.Any (kind.Xmm xmm.MovupdStore) ops.Xmm size.Narrow imm.None ∷
     row 236 pre.PF3 map.Two 0x11 false None form.Any (kind.Xmm xmm.MovssStore) ops.Xmm size.Narrow imm.None ∷
@@ -318,7 +318,7 @@ rows =
     -- 0F 7E movd movq to E general (66), movq (F3)
     row 247 pre.P66 map.Two 0x7E false None form.Any (kind.Xmm xmm.MovdStore) ops.Xmm size.Wide imm.None ∷
     row 248 pre.PF3 map.Two 0x7E false None form.Any (kind.Xmm xmm.MovqLoad) ops.Xmm size.Narrow imm.None ∷
-    -- 0F D6 movq to memory
+    -- 0F D6 movq from an XMM register
     row 249 pre.P66 map.Two 0xD6 false None form.Any (kind.Xmm xmm.MovqStore) ops.Xmm size.Narrow imm.None ∷
     -- 0F 51 sqrt, 58 add, 59 mul, 5C sub, 5D min, 5E div, 5F max
     row 250 pre.Plain map.Two 0x51 false None form.Any (kind.Xmm xmm.Sqrtps) ops.Xmm size.Narrow imm.None ∷
