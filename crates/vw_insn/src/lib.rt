@@ -19,3 +19,6 @@ pub use operations::{AluOp, BitsOp, Cond, MulDivOp, ShiftOp, UnaryOp};
 pub use printing::text;
 pub use registers::{HighReg, Reg, Width};
 pub use xmm::XmmRow;
+
+#[cfg(test)]
+mod tests;
