@@ -2,6 +2,7 @@
 //! of instruction that guest code may hold. The names are those of the Intel SDM, volume 2.
 #![tactic(auto)]
 
+mod equality;
 mod instruction;
 mod mnemonics;
 mod names;
@@ -13,6 +14,7 @@ mod registers;
 mod xmm;
 mod xmm_names;
 
+pub use equality::{same_insn, same_mem, same_place, same_source};
 pub use instruction::Insn;
 pub use operands::{Base, Count, Mem, Place, Source, XmmOperand};
 pub use operations::{AluOp, BitsOp, Cond, MulDivOp, ShiftOp, UnaryOp};
