@@ -27,11 +27,11 @@ five_parts a b c d e h =
 
 pub tests-of : (r : Row) (k : Key) → matches r k ≡ true → AnswersTo r k
 tests-of r k h =
-    let parts = five_parts (takes_prefix r.pattern.prefixes k.prefix) (same_map r.pattern.map k.map) (has_opcode r.pattern k.opcode) (has_digit r.pattern.digit k.digit) (has_form r.pattern.form k.register_form) h in
-    record { prefix = parts.0; map = parts.1; opcode = parts.2; digit = parts.3; form = parts.4 }
+    let parts = five_parts (has_opcode r.pattern k.opcode) (takes_prefix r.pattern.prefixes k.prefix) (same_map r.pattern.map k.map) (has_digit r.pattern.digit k.digit) (has_form r.pattern.form k.register_form) h in
+    record { prefix = parts.1; map = parts.2; opcode = parts.0; digit = parts.3; form = parts.4 }
 
 pub of-tests : (r : Row) (k : Key) → AnswersTo r k → matches r k ≡ true
-of-tests r k t = both_true t.prefix (both_true t.map (both_true t.opcode (both_true t.digit t.form)))
+of-tests r k t = both_true t.opcode (both_true t.prefix (both_true t.map (both_true t.digit t.form)))
 
 pub same_map-≡ : (a b : Map) → same_map a b ≡ true → a ≡ b
 same_map-≡ One One _ = refl

@@ -48,7 +48,7 @@ has_form Register register_form = register_form
 -- the row is that of the key
 abbrev pub matches : Row → Key → Bool
 matches r k =
-    takes_prefix r.pattern.prefixes k.prefix && (same_map r.pattern.map k.map && (has_opcode r.pattern k.opcode && (has_digit r.pattern.digit k.digit && has_form r.pattern.form k.register_form)))
+    has_opcode r.pattern k.opcode && (takes_prefix r.pattern.prefixes k.prefix && (same_map r.pattern.map k.map && (has_digit r.pattern.digit k.digit && has_form r.pattern.form k.register_form)))
 
 abbrev pub key : Prefix → Map → ℕ → ℕ → Bool → Key
 key p m o d f = record { prefix = p; map = m; opcode = o; digit = d; register_form = f }

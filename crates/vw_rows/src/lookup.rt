@@ -37,9 +37,9 @@ fn is_match(row: &Row, key: Key) -> bool
     ensures { result ≡ matches row.now key }
 {
     let pattern = row.pattern;
-    accepts_prefix(pattern.prefixes, key.prefix)
+    accepts_opcode(pattern, key.opcode)
+        && accepts_prefix(pattern.prefixes, key.prefix)
         && is_map(pattern.map, key.map)
-        && accepts_opcode(pattern, key.opcode)
         && accepts_digit(pattern.digit, key.digit)
         && accepts_form(pattern.form, key.register_form)
 }
