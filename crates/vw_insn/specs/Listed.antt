@@ -1,6 +1,6 @@
 -- Which instructions an opcode row can give, field by field: the condition of all that takes an
 -- instruction as an argument.
-use Rattle.std.specs.Prelude.{◌≡◌, ◌≢◌, ℕ, ◌<◌, ◌≤◌, ℤ, pos, negsuc, ◌≤ℤ◌, ◌⊎◌, Option, None, Some}
+use Rattle.std.specs.Prelude.{◌≡◌, ◌≢◌, ℕ, ◌<◌, pos, negsuc, ◌≤ℤ◌, ◌⊎◌, Option, None, Some}
 use Rattle.vw_insn.specs.declared.registers.Reg.{Reg}
 use Rattle.vw_insn.specs.declared.registers.Reg.TheVariants.{Rsp}
 use Rattle.vw_insn.specs.declared.registers.Width.{Width}

@@ -1,5 +1,5 @@
 -- Names of registers and instructions in lower case, as ASCII text.
-use Rattle.std.specs.Prelude.{ℕ, Bool, true, false, List, codes}
+use Rattle.std.specs.Prelude.{ℕ, List, codes}
 use Rattle.vw_insn.specs.declared.registers.Reg.{Reg}
 use Rattle.vw_insn.specs.declared.registers.Reg.TheVariants.{Rax, Rcx, Rdx, Rbx, Rsp, Rbp, Rsi, Rdi, R8, R9, R10, R11, R12, R13, R14, R15}
 use Rattle.vw_insn.specs.declared.registers.HighReg.{HighReg}

@@ -79,15 +79,13 @@ pub fn same_insn(a: &Insn, b: &Insn) -> bool
     }
 }
 
-/// Whether two memory operands are the same value.
-pub fn same_mem(a: Mem, b: Mem) -> bool
+fn same_mem(a: Mem, b: Mem) -> bool
     ensures { IsTrue result ↔ (a ≡ b) }
 {
     a.base == b.base && same_index(a.index, b.index) && a.disp == b.disp
 }
 
-/// Whether two places are the same value.
-pub fn same_place(a: Place, b: Place) -> bool
+fn same_place(a: Place, b: Place) -> bool
     ensures { IsTrue result ↔ (a ≡ b) }
 {
     match (a, b) {
@@ -98,8 +96,7 @@ pub fn same_place(a: Place, b: Place) -> bool
     }
 }
 
-/// Whether two sources are the same value.
-pub fn same_source(a: Source, b: Source) -> bool
+fn same_source(a: Source, b: Source) -> bool
     ensures { IsTrue result ↔ (a ≡ b) }
 {
     match (a, b) {

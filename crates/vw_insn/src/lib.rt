@@ -14,7 +14,7 @@ mod registers;
 mod xmm;
 mod xmm_names;
 
-pub use equality::{same_insn, same_mem, same_place, same_source};
+pub use equality::same_insn;
 pub use instruction::Insn;
 pub use operands::{Base, Count, Mem, Place, Source, XmmOperand};
 pub use operations::{AluOp, BitsOp, Cond, MulDivOp, ShiftOp, UnaryOp};

@@ -2,7 +2,7 @@ ghost use Rattle.vw_insn.specs.Listed.{IsListed};
 
 use crate::{
     AluOp, Base, BitsOp, Cond, Count, HighReg, Insn, Mem, MulDivOp, Place, Reg, ShiftOp, Source,
-    UnaryOp, Width, XmmOperand, XmmRow, text,
+    UnaryOp, Width, XmmOperand, XmmRow, same_insn, text,
 };
 use std::alloc::Global;
 use std::process::Abort;
@@ -512,4 +512,12 @@ fn prints_each_kind_of_instruction(rt: HostRuntime) {
     expect_moves(&rt, rt.alloc());
     expect_jumps(&rt, rt.alloc());
     expect_xmm(&rt, rt.alloc());
+    assert!(rt;
+        same_insn(&Insn::Jump { rel: 1 }, &Insn::Jump { rel: 1 }),
+        "equal"
+    );
+    assert!(rt;
+        !same_insn(&Insn::Jump { rel: 1 }, &Insn::Call { rel: 1 }),
+        "not equal"
+    );
 }
