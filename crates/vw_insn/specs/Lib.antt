@@ -1,2 +1,6 @@
 pub mod Words
 pub mod Effect
+pub mod Listed
+pub mod Names
+pub mod XmmNames
+pub mod Text

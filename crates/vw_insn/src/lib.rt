@@ -2,14 +2,25 @@
 //! of instruction that guest code may hold. The names are those of the Intel SDM, volume 2.
 #![tactic(auto)]
 
+mod equality;
 mod instruction;
+mod mnemonics;
+mod names;
 mod operands;
 mod operations;
+mod printed;
+mod printing;
 mod registers;
 mod xmm;
+mod xmm_names;
 
+pub use equality::same_insn;
 pub use instruction::Insn;
 pub use operands::{Base, Count, Mem, Place, Source, XmmOperand};
 pub use operations::{AluOp, BitsOp, Cond, MulDivOp, ShiftOp, UnaryOp};
+pub use printing::text;
 pub use registers::{HighReg, Reg, Width};
 pub use xmm::XmmRow;
+
+#[cfg(test)]
+mod tests;

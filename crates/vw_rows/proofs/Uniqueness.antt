@@ -1,0 +1,98 @@
+use Rattle.std.proofs.Common.{◌≡◌, Bool, true, false, not, ◌&&◌, Option, None, Some, IfSome, List, [], ◌∷◌, filter, refl, sym, ◌∙◌, ap, subst, inl, inr}
+use Rattle.std.proofs.lemmas.Bool.{and_parts, cases_Bool, false≢true}
+use Rattle.std.specs.List.{find, list_all}
+use Rattle.vw_rows.specs.declared.patterns.Key.{Key}
+use Rattle.vw_rows.specs.declared.forms.Row.{Row}
+use Rattle.vw_rows.specs.Rows.{rows}
+use Rattle.vw_rows.specs.Lookup.{IsIn, matches, same_map}
+use Rattle.vw_rows.proofs.Matching.{clash, matches-clash, tests-of}
+
+-- no two rows of the list have a key in common
+abbrev apart : List Row → Bool
+apart [] = true
+apart (x ∷ xs) = list_all (λ (y : Row). not (clash x y)) xs && apart xs
+
+rows_apart : apart rows ≡ true
+unfolding rows
+rows_apart = refl
+
+all_at : (p : Row → Bool) (xs : List Row) → list_all p xs ≡ true → (r : Row) → IsIn r xs → p r ≡ true
+all_at p [] h r i = absurd i
+all_at p (x ∷ xs) h r (inl e) = subst (λ (y : Row). p y ≡ true) e (and_parts (p x) (list_all p xs) h).0
+all_at p (x ∷ xs) h r (inr i) = all_at p xs (and_parts (p x) (list_all p xs) h).1 r i
+
+not-true : (b : Bool) → not b ≡ true → b ≡ true → ⊥
+not-true true h i = false≢true h
+not-true false h i = false≢true i
+
+one_of : (k : Key) (r s : Row) (xs : List Row) → apart xs ≡ true → IsIn r xs → IsIn s xs → matches r k ≡ true → matches s k ≡ true → r ≡ s
+one_of k r s [] h i j a b = absurd i
+one_of k r s (x ∷ xs) h (inl e) (inl f) a b = sym e ∙ f
+one_of k r s (x ∷ xs) h (inl e) (inr j) a b =
+    let rest = (and_parts (list_all (λ (y : Row). not (clash x y)) xs) (apart xs) h).0 in
+    let a' = subst (λ (y : Row). matches y k ≡ true) (sym e) a in
+    absurd (not-true (clash x s) (all_at (λ (y : Row). not (clash x y)) xs rest s j) (matches-clash x s k a' b))
+one_of k r s (x ∷ xs) h (inr i) (inl f) a b =
+    let rest = (and_parts (list_all (λ (y : Row). not (clash x y)) xs) (apart xs) h).0 in
+    let b' = subst (λ (y : Row). matches y k ≡ true) (sym f) b in
+    absurd (not-true (clash x r) (all_at (λ (y : Row). not (clash x y)) xs rest r i) (matches-clash x r k b' a))
+one_of k r s (x ∷ xs) h (inr i) (inr j) a b =
+    one_of k r s xs (and_parts (list_all (λ (y : Row). not (clash x y)) xs) (apart xs) h).1 i j a b
+
+-- no key has two rows
+pub one_row : (k : Key) (r s : Row) → IsIn r rows → IsIn s rows → matches r k ≡ true → matches s k ≡ true → r ≡ s
+one_row k r s i j a b = one_of k r s rows rows_apart i j a b
+
+-- a filter that keeps what the search wants does not change what is found
+find-filter : (p q : Row → Bool) → ((r : Row) → p r ≡ true → q r ≡ true) → (xs : List Row) → find p (filter q xs) ≡ find p xs
+find-filter p q keeps [] = refl
+find-filter p q keeps (x ∷ xs) =
+    elim (cases_Bool (p x)) [
+      | inl hit ↦ rw (keeps x hit) (rw hit refl)
+      | inr miss ↦ elim (cases_Bool (q x)) [
+        | inl kept ↦ rw kept (rw miss (find-filter p q keeps xs))
+        | inr lost ↦ rw lost (rw miss (find-filter p q keeps xs))
+      ]
+    ]
+
+IfSome-more : (o : Option Row) (P Q : Row → Type 0) → ((r : Row) → P r → Q r) → IfSome o P → IfSome o Q
+IfSome-more None P Q more h = tt
+IfSome-more (Some r) P Q more h = more r h
+
+find-some : (p : Row → Bool) (xs : List Row) → IfSome (find p xs) (λ r. IsIn r xs × (p r ≡ true))
+find-some p [] = tt
+find-some p (x ∷ xs) =
+    elim (cases_Bool (p x)) [
+      | inl hit ↦ rw hit (inl refl, hit)
+      | inr miss ↦ rw miss (IfSome-more (find p xs) (λ (r : Row). IsIn r xs × (p r ≡ true)) (λ (r : Row). IsIn r (x ∷ xs) × (p r ≡ true)) (λ (r : Row) h. (inr h.0, h.1)) (find-some p xs))
+    ]
+
+find-there : (p : Row → Bool) (xs : List Row) (r : Row) → IsIn r xs → p r ≡ true → (s : Row) × (find p xs ≡ Some s)
+find-there p [] r i h = absurd i
+find-there p (x ∷ xs) r (inl e) h =
+    let hit : p x ≡ true = subst (λ (y : Row). p y ≡ true) (sym e) h in
+    (x, rw hit refl)
+find-there p (x ∷ xs) r (inr i) h =
+    elim (cases_Bool (p x)) [
+      | inl hit ↦ (x, rw hit refl)
+      | inr miss ↦ (let rest = find-there p xs r i h in (rest.0, rw miss rest.1))
+    ]
+
+-- the search in the rows of the key's map is the search in all rows
+in_map : (k : Key) → find (λ (r : Row). matches r k) (filter (λ (r : Row). same_map r.pattern.map k.map) rows) ≡ find (λ (r : Row). matches r k) rows
+in_map k = find-filter (λ (r : Row). matches r k) (λ (r : Row). same_map r.pattern.map k.map) (λ (r : Row) h. (tests-of r k h).map) rows
+
+-- what the search answers is a row of the key
+pub row_found : (k : Key) (table : List Row) (answer : Option Row) → table ≡ filter (λ (r : Row). same_map r.pattern.map k.map) rows → answer ≡ find (λ (r : Row). matches r k) table → IfSome answer (λ (r : Row). IsIn r rows × (matches r k ≡ true))
+row_found k table answer h i =
+    let e : answer ≡ find (λ (r : Row). matches r k) rows = i ∙ (ap (λ (t : List Row). find (λ (r : Row). matches r k) t) h ∙ in_map k) in
+    subst (λ (o : Option Row). IfSome o (λ (r : Row). IsIn r rows × (matches r k ≡ true))) (sym e) (find-some (λ (r : Row). matches r k) rows)
+
+-- a row of the key is what the search answers
+pub row_only : (k : Key) (table : List Row) (answer : Option Row) → table ≡ filter (λ (r : Row). same_map r.pattern.map k.map) rows → answer ≡ find (λ (r : Row). matches r k) table → (r : Row) → IsIn r rows → matches r k ≡ true → answer ≡ Some r
+row_only k table answer h i r there hit =
+    let e : answer ≡ find (λ (s : Row). matches s k) rows = i ∙ (ap (λ (t : List Row). find (λ (s : Row). matches s k) t) h ∙ in_map k) in
+    let found = find-there (λ (s : Row). matches s k) rows r there hit in
+    let is : answer ≡ Some found.0 = e ∙ found.1 in
+    let fact = subst (λ (o : Option Row). IfSome o (λ (s : Row). IsIn s rows × (matches s k ≡ true))) is (row_found k table answer h i) in
+    is ∙ ap (λ (s : Row). Some s) (one_row k found.0 r fact.0 there fact.1 hit)

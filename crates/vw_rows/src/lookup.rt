@@ -1,0 +1,96 @@
+ghost use Rattle.std.specs.Prelude.{◌≡◌, Bool, true, find, IfSome};
+ghost use Rattle.vw_rows.specs.Rows.{rows};
+ghost use Rattle.vw_rows.specs.Lookup.{IsIn, key, matches, takes_prefix, has_opcode, has_digit, has_form, same_map};
+
+use crate::tables::rows_of;
+use crate::{Form, Key, Map, Pattern, Prefix, Prefixes, Row};
+
+/// The one row of an instruction with this prefix, map, opcode, reg field and form, or `None` where
+/// there is no such row. A row that asks no digit, or no form, is found for each; one that asks a
+/// digit is found for none above 7.
+pub fn row_of(prefix: Prefix, map: Map, opcode: u8, digit: u8, register_form: bool) -> Option<Row>
+    ensures found { IfSome result (λ r. IsIn r rows × (matches r (key prefix map opcode digit register_form) ≡ true)) }
+    ensures only { (r : Row) → IsIn r rows → matches r (key prefix map opcode digit register_form) ≡ true → result ≡ Some r }
+{
+    let key = Key {
+        prefix,
+        map,
+        opcode,
+        digit,
+        register_form,
+    };
+    first_match(rows_of(map), key)
+}
+
+/// No key has two rows.
+pub fn one_row_per_key()
+    ensures { (k : Key) (r s : Row) → IsIn r rows → IsIn s rows → matches r k ≡ true → matches s k ≡ true → r ≡ s }
+{}
+
+fn first_match(rows: &[Row], key: Key) -> Option<Row>
+    ensures { result ≡ find (λ r. matches r key) rows.now }
+{
+    rows.iter().copied().find(|row| is_match(row, key))
+}
+
+fn is_match(row: &Row, key: Key) -> bool
+    ensures { result ≡ matches row.now key }
+{
+    let pattern = row.pattern;
+    accepts_opcode(pattern, key.opcode)
+        && accepts_prefix(pattern.prefixes, key.prefix)
+        && is_map(pattern.map, key.map)
+        && accepts_digit(pattern.digit, key.digit)
+        && accepts_form(pattern.form, key.register_form)
+}
+
+fn accepts_prefix(prefixes: Prefixes, prefix: Prefix) -> bool
+    ensures { result ≡ takes_prefix prefixes prefix }
+{
+    matches!(
+        (prefixes, prefix),
+        (Prefixes::Plain, Prefix::Plain)
+            | (Prefixes::PlainOr66, Prefix::Plain | Prefix::P66)
+            | (Prefixes::P66, Prefix::P66)
+            | (Prefixes::PF2, Prefix::PF2)
+            | (Prefixes::PF3, Prefix::PF3)
+    )
+}
+
+fn is_map(map: Map, other: Map) -> bool
+    ensures { result ≡ same_map map other }
+{
+    matches!(
+        (map, other),
+        (Map::One, Map::One) | (Map::Two, Map::Two) | (Map::Three, Map::Three)
+    )
+}
+
+fn accepts_opcode(pattern: Pattern, opcode: u8) -> bool
+    ensures { result ≡ has_opcode pattern opcode }
+{
+    if pattern.plus {
+        opcode / 8 == pattern.opcode / 8
+    } else {
+        opcode == pattern.opcode
+    }
+}
+
+fn accepts_digit(asked: Option<u8>, digit: u8) -> bool
+    ensures { result ≡ has_digit asked digit }
+{
+    match asked {
+        None => true,
+        Some(asked) => digit == asked,
+    }
+}
+
+fn accepts_form(form: Form, register_form: bool) -> bool
+    ensures { result ≡ has_form form register_form }
+{
+    match form {
+        Form::Any => true,
+        Form::Memory => !register_form,
+        Form::Register => register_form,
+    }
+}
