@@ -24,8 +24,8 @@ by_order a b false e = inr (grind (arith, nat_tests))
 shared : (a n from to : ℕ) → a < to → from < a + n → from < to → 0 < n → (q : ℕ) × (a ≤ q) × (q < a + n) × (from ≤ q) × (q < to)
 shared a n from to one two three four =
     elim (by_order a from (nat_le a from) refl) [
-      inl before ↦ (from, before, two, omega arith, three)
-    | inr behind ↦ (a, omega arith, omega arith, omega arith, one)
+      | inl before ↦ (from, before, two, omega arith, three)
+      | inr behind ↦ (a, omega arith, omega arith, omega arith, one)
     ]
 
 module _ (code : List ℕ) (w : World) (top : Activation) (laid : IsLaidOut (module_of code).image 0 w) (framed : IsFramed w top) where
@@ -37,17 +37,17 @@ module _ (code : List ℕ) (w : World) (top : Activation) (laid : IsLaidOut (mod
       let ends = heap_ends laid in
       let heap : Range = record { from = w.heap - 8; to = w.heap + 2 ^ 33 } in
       elim may [
-        inl in_heap ↦ let a = in_heap.1 in omega arith
-      | inr may ↦ elim may [
-          inl word ↦ let a = word.1 in omega arith
+        | inl in_heap ↦ let a = in_heap.1 in omega arith
         | inr may ↦ elim may [
-            inl in_globals ↦ laid.instance_apart 0 1 heap (lit< tt) (lit< tt) (w.heap + 2 ^ 33 - 3) (omega arith, omega arith) (in_globals.0, omega (arith, in_globals.1))
+          | inl word ↦ let a = word.1 in omega arith
           | inr may ↦ elim may [
-              inl readable ↦ let byte = readable (w.heap + 2 ^ 33 - 3) (omega arith) (omega arith) in let above = byte.0 in let below : w.heap + 2 ^ 33 - 3 - w.load < 120 + length code = grind (arith, nat_tests, byte.1) in
-                  laid.image_apart.0.0 (w.heap + 2 ^ 33 - 3) (omega arith, omega arith) (omega arith, omega arith)
+            | inl in_globals ↦ laid.instance_apart 0 1 heap (lit< tt) (lit< tt) (w.heap + 2 ^ 33 - 3) (omega arith, omega arith) (in_globals.0, omega (arith, in_globals.1))
             | inr may ↦ elim may [
-                inl written ↦ let bytes = framed.written (w.heap + 2 ^ 33 - 3) (written (w.heap + 2 ^ 33 - 3) (omega arith) (omega arith)) in heap_or_stack laid (w.heap + 2 ^ 33 - 3) (omega arith) (omega arith) (omega (arith, bytes.0)) (omega (arith, bytes.1))
-              | inr above ↦ let a = above.0 in let b = above.1 in heap_or_stack laid (w.heap + 2 ^ 33 - 3) (omega arith) (omega arith) (omega arith) (omega arith)
+              | inl readable ↦ let byte = readable (w.heap + 2 ^ 33 - 3) (omega arith) (omega arith) in let above = byte.0 in let below : w.heap + 2 ^ 33 - 3 - w.load < 120 + length code = grind (arith, nat_tests, byte.1) in
+                  laid.image_apart.0.0 (w.heap + 2 ^ 33 - 3) (omega arith, omega arith) (omega arith, omega arith)
+              | inr may ↦ elim may [
+                | inl written ↦ let bytes = framed.written (w.heap + 2 ^ 33 - 3) (written (w.heap + 2 ^ 33 - 3) (omega arith) (omega arith)) in heap_or_stack laid (w.heap + 2 ^ 33 - 3) (omega arith) (omega arith) (omega (arith, bytes.0)) (omega (arith, bytes.1))
+                | inr above ↦ let a = above.0 in let b = above.1 in heap_or_stack laid (w.heap + 2 ^ 33 - 3) (omega arith) (omega arith) (omega arith) (omega arith)
               ]
             ]
           ]
@@ -66,10 +66,10 @@ module _ (code : List ℕ) (w : World) (top : Activation) (laid : IsLaidOut (mod
       let q3 = q.3 in
       let q4 = q.4 in
       elim may [
-        inl in_heap ↦ let one = in_heap.0 in let two = in_heap.1 in heap_or_stack laid q.0 (omega arith) (omega arith) (omega arith) (omega arith)
-      | inr may ↦ elim may [
-          inl in_globals ↦ let one = in_globals.0 in let two = in_globals.1 in laid.instance_apart 1 2 globals (lit< tt) (lit< tt) q.0 (omega arith, omega arith) (omega arith, omega arith)
-        | inr in_frame ↦ let end = in_frame.1 in omega arith
+        | inl in_heap ↦ let one = in_heap.0 in let two = in_heap.1 in heap_or_stack laid q.0 (omega arith) (omega arith) (omega arith) (omega arith)
+        | inr may ↦ elim may [
+          | inl in_globals ↦ let one = in_globals.0 in let two = in_globals.1 in laid.instance_apart 1 2 globals (lit< tt) (lit< tt) q.0 (omega arith, omega arith) (omega arith, omega arith)
+          | inr in_frame ↦ let end = in_frame.1 in omega arith
         ]
       ]
 

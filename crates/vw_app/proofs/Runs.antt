@@ -170,10 +170,10 @@ module _ (code : List ℕ) (are_bytes : (k : ℕ) → get_or code k 0 < 256) (sa
       let inside = within.0 in
       let ends = within.1 in
       chosen (is_within q 1 (stack_range w) && is_in_write v q) _ (bytes q) (refuted _ (λ h.
-        let parts = both (is_within q 1 (stack_range w)) (is_in_write v q) h in
-        let in_stack = within_true q 1 (stack_range w) parts.0 in
-        let in_write = within_true q 1 (record { from = v.at; to = v.at + v.size }) parts.1 in
-        heap_or_stack laid q (omega arith) (omega arith) (omega arith) (omega arith)))
+      let parts = both (is_within q 1 (stack_range w)) (is_in_write v q) h in
+      let in_stack = within_true q 1 (stack_range w) parts.0 in
+      let in_write = within_true q 1 (record { from = v.at; to = v.at + v.size }) parts.1 in
+      heap_or_stack laid q (omega arith) (omega arith) (omega arith) (omega arith)))
 
   module _ (Rest : State → Type 0) (choice : Choice) (registers : Registers) (rip : ℕ) (flags : Flags) (bytes : Bytes) (written : ℕ → Bool) (held : Holds registers rip bytes)
       (later : (registers : Registers) (rip : ℕ) (flags : Flags) (bytes : Bytes) (written : ℕ → Bool) → Holds registers rip bytes → Rest (state registers rip flags bytes written)) where
@@ -228,8 +228,8 @@ module _ (code : List ℕ) (are_bytes : (k : ℕ) → get_or code k 0 < 256) (sa
         let ends = stack_ends laid in
         let room = laid.room_below_heap in
         let not_word : (a + 8 == w.heap) && true ≡ false = refuted _ (λ h.
-          let word : a + 8 ≡ w.heap = grind (arith, nat_tests, (both (a + 8 == w.heap) true h).0) in
-          heap_or_stack laid a (omega arith) (omega arith) (omega arith) (omega arith)) in
+        let word : a + 8 ≡ w.heap = grind (arith, nat_tests, (both (a + 8 == w.heap) true h).0) in
+        heap_or_stack laid a (omega arith) (omega arith) (omega arith) (omega arith)) in
         let in_stack : is_within a 8 (stack_range w) ≡ true = within_is_true a 8 (stack_range w) (omega arith, omega arith) in
         chosen ((a + 8 == w.heap) && true) _ _ not_word ∙ (taken (is_within a 8 (stack_range w)) _ _ in_stack ∙ (ap (λ (q : ℕ). load bytes q 8) is ∙ held.return))
 
@@ -279,7 +279,7 @@ sandboxed code are_bytes some safe w laid f listed s initial choices =
     let is : f ≡ record { entry = 120; size = length code } = only_one (record { entry = 120; size = length code }) f listed in
     let at : s.rip ≡ w.load + 120 = initial.rip ∙ ap (λ (g : Function). w.load + g.entry) is in
     let active : s.active ≡ record { entry = w.load + 120; rsp0 = s.registers 4; back = w.host_return; written = λ q. false } ∷ [] =
-        initial.active ∙ ap (λ (a : ℕ). let first : Activation = record { entry = a; rsp0 = s.registers 4; back = w.host_return; written = λ q. false } in first ∷ []) at in
+    initial.active ∙ ap (λ (a : ℕ). let first : Activation = record { entry = a; rsp0 = s.registers 4; back = w.host_return; written = λ q. false } in first ∷ []) at in
     subst (λ (a : List Activation). StaysSafe (module_of code) w s.registers choices (record { registers = s.registers; rip = s.rip; flags = s.flags; bytes = s.bytes; active = a })) (sym active)
     (runs code are_bytes safe w laid s.registers initial.rsp_low initial.rsp_high initial.rdi choices s.registers s.rip s.flags s.bytes (λ q. false)
-      (record { point = 0; reached = here; inside = some; at = omega arith; same = λ q other. refl; return = initial.return }))
+    (record { point = 0; reached = here; inside = some; at = omega arith; same = λ q other. refl; return = initial.return }))

@@ -27,8 +27,8 @@ pub Comes-after : {code : List ℕ} {from len : ℕ} {i : Insn} → BeginsAt cod
 Comes-after stands here = inl refl
 Comes-after {code} {from} {len} {i} stands (on point other_len other comes others going) =
     elim (Comes-after stands comes) [
-      inl same ↦ step_on stands point other_len other others going same
-    | inr later ↦ inr (later.0, on point other_len other later.1 others going)
+      | inl same ↦ step_on stands point other_len other others going same
+      | inr later ↦ inr (later.0, on point other_len other later.1 others going)
     ]
 
 -- the walk was at this point before, and an instruction stands there
@@ -65,8 +65,8 @@ same_negative {code} {at} {len} {q} {i} stands low same =
 lies_after : {code : List ℕ} {at len : ℕ} {i : Insn} → Seen code at None → BeginsAt code at i len → (¬ IsNegative i) → (q : ℕ) → IsBelowBase code q → (goes_on i ≡ true) × Comes code (at + len) q
 lies_after seen stands not_negative q low =
     elim (seen.others q low.reached) [
-      inl before ↦ absurd (omega (arith, before.below, seen.low q low))
-    | inr comes ↦ elim (Comes-after stands comes) [ inl same ↦ absurd (not_negative (same_negative stands low same)) | inr later ↦ later ]
+      | inl before ↦ absurd (omega (arith, before.below, seen.low q low))
+      | inr comes ↦ elim (Comes-after stands comes) [ inl same ↦ absurd (not_negative (same_negative stands low same)) | inr later ↦ later ]
     ]
 
 -- what is known of the lowest negative displacement once the instruction at `at` was looked at
@@ -91,8 +91,8 @@ none_looked {code} {at} {len} {i} seen stands not_negative =
 pub looked : {code : List ℕ} {at len : ℕ} {i : Insn} (old new : Option ℕ) → Seen code at old → BeginsAt code at i len → IfSome old (λ p. new ≡ Some p) → LooksOn old at i new → Looked code at len i new
 looked {code} {at} {len} {i} None new seen stands kept looks =
     elim (looks refl) [
-      inl first ↦ subst (λ (o : Option ℕ). Looked code at len i o) (sym first.0) (first_looked seen stands first.1)
-    | inr none ↦ subst (λ (o : Option ℕ). Looked code at len i o) (sym none.0) (none_looked seen stands none.1)
+      | inl first ↦ subst (λ (o : Option ℕ). Looked code at len i o) (sym first.0) (first_looked seen stands first.1)
+      | inr none ↦ subst (λ (o : Option ℕ). Looked code at len i o) (sym none.0) (none_looked seen stands none.1)
     ]
 looked {code} {at} {len} {i} (Some p) new seen stands kept looks =
     subst (λ (o : Option ℕ). Looked code at len i o) (sym kept) (record { low = seen.low; ends = λ e. cc })
@@ -100,10 +100,10 @@ looked {code} {at} {len} {i} (Some p) new seen stands kept looks =
 passed : {code : List ℕ} {at len : ℕ} {i : Insn} {lowest : Option ℕ} → Seen code at lowest → BeginsAt code at i len → (q : ℕ) → Reaches code q → Before code (at + len) q ⊎ Comes code (at + len) q
 passed {code} {at} {len} {i} seen stands q reaches =
     elim (seen.others q reaches) [
-      inl before ↦ inl (record { below = omega (arith, before.below); instruction = before.instruction; len = before.len; stands = before.stands })
-    | inr comes ↦ elim (Comes-after stands comes) [
-        inl same ↦ inl (record { below = omega (arith, same, len-pos stands); instruction = i; len = len; stands = subst (λ (p : ℕ). BeginsAt code p i len) (sym same) stands })
-      | inr later ↦ inr later.1
+      | inl before ↦ inl (record { below = omega (arith, before.below); instruction = before.instruction; len = before.len; stands = before.stands })
+      | inr comes ↦ elim (Comes-after stands comes) [
+        | inl same ↦ inl (record { below = omega (arith, same, len-pos stands); instruction = i; len = len; stands = subst (λ (p : ℕ). BeginsAt code p i len) (sym same) stands })
+        | inr later ↦ inr later.1
       ]
     ]
 
@@ -115,10 +115,10 @@ goes {code} {at} {len} {i} old new seen stands going known =
 ended_before : {code : List ℕ} {at len : ℕ} {i : Insn} {lowest : Option ℕ} → Seen code at lowest → BeginsAt code at i len → goes_on i ≡ false → (q : ℕ) → Reaches code q → Before code (at + len) q
 ended_before {code} {at} {len} {i} seen stands stops q reaches =
     elim (seen.others q reaches) [
-      inl before ↦ record { below = omega (arith, before.below); instruction = before.instruction; len = before.len; stands = before.stands }
-    | inr comes ↦ elim (Comes-after stands comes) [
-        inl same ↦ record { below = omega (arith, same, len-pos stands); instruction = i; len = len; stands = subst (λ (p : ℕ). BeginsAt code p i len) (sym same) stands }
-      | inr later ↦ let going = later.0 in cc
+      | inl before ↦ record { below = omega (arith, before.below); instruction = before.instruction; len = before.len; stands = before.stands }
+      | inr comes ↦ elim (Comes-after stands comes) [
+        | inl same ↦ record { below = omega (arith, same, len-pos stands); instruction = i; len = len; stands = subst (λ (p : ℕ). BeginsAt code p i len) (sym same) stands }
+        | inr later ↦ let going = later.0 in cc
       ]
     ]
 
@@ -142,8 +142,8 @@ found_unbuilt {code} {at} seen inside none built = let form = built at seen.reac
 run_built : {code : List ℕ} {at : ℕ} {lowest : Option ℕ} → Seen code at lowest → at ≡ length code → IsBuilt code
 run_built {code} {at} seen end q reaches inside =
     elim (seen.others q reaches) [
-      inl before ↦ (before.instruction, before.len, before.stands)
-    | inr comes ↦ absurd (omega (arith, Comes-from comes))
+      | inl before ↦ (before.instruction, before.len, before.stands)
+      | inr comes ↦ absurd (omega (arith, Comes-from comes))
     ]
 
 pub found_end : {code : List ℕ} (at : ℕ) {lowest : Option ℕ} → Seen code at lowest → at ≡ length code → Fails code at 1

@@ -18,40 +18,34 @@ ghost use Rattle.vw_app.specs.Laws.{IsFramed};
 pub fn reservation_ends()
     ensures { (code : List ℕ) (w : World) (top : Activation) (way : Way) → IsLaidOut (module_of code).image 0 w → IsFramed w top
         → MayDo (module_of code) w top way (Reads (w.heap + 2 ^ 33 - 3) 4) → ⊥ }
-{
-}
+{}
 
 /// A write that touches one of the eight bytes of the return address is permitted to no instruction.
 pub fn return_address_stays()
     ensures { (code : List ℕ) (w : World) (top : Activation) (way : Way) (a n : ℕ) → IsLaidOut (module_of code).image 0 w → IsFramed w top
         → 0 < n → a < top.rsp0 + 8 → top.rsp0 < a + n → MayDo (module_of code) w top way (Writes a n) → ⊥ }
-{
-}
+{}
 
 /// A return goes nowhere but to the return address.
 pub fn returns_go_back()
     ensures { (code : List ℕ) (w : World) (top : Activation) (to : ℕ) → to ≢ top.back → MayDo (module_of code) w top Return (Goes to) → ⊥ }
-{
-}
+{}
 
 /// At most one instruction stands at an address.
 pub fn one_instruction_stands()
     ensures { (m : Module) (w : World) (rip : ℕ) (active : List Activation) (i j : Insn) (len other : ℕ)
         → StandsAt m w rip active (Code i len) → StandsAt m w rip active (Code j other) → (i ≡ j) × (len ≡ other) }
-{
-}
+{}
 
 /// For each module of one function there is an instance that is laid out well, and a state in which the
 /// host enters the function: what `safe` says of every run speaks of some.
 pub fn runs_begin()
     ensures { (code : List ℕ) → length code ≤ longest_code
         → (w : World) × IsLaidOut (module_of code).image 0 w × (f : Function) × Contains (module_of code).functions f × (s : State) × IsInitial w f s }
-{
-}
+{}
 
 /// A file has at most one answer.
 pub fn one_answer()
     ensures { (file : List ℕ) (status other : ℕ) (text other_text : List ℕ) → Judged file status text → Judged file other other_text
         → (status ≡ other) × (text ≡ other_text) }
-{
-}
+{}

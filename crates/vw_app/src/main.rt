@@ -35,3 +35,6 @@ fn words(rt: &HostRuntime) -> std::io::Result<Vec<String>> {
     }
     Ok(words)
 }
+
+#[cfg(test)]
+mod tests;

@@ -14,8 +14,8 @@ const FILE_SIZE_AT: u64 = 96;
 
 /// The ELF header up to `e_shoff`.
 const FILE_HEADER_FRONT: [u8; 40] = [
-    0x7F, 0x45, 0x4C, 0x46, 2, 1, 1, 0, 0, 0, 0, 0, 0, 0, 0, 0, 3, 0, 62, 0, 1, 0, 0, 0, 0, 0, 0, 0,
-    0, 0, 0, 0, 64, 0, 0, 0, 0, 0, 0, 0,
+    0x7F, 0x45, 0x4C, 0x46, 2, 1, 1, 0, 0, 0, 0, 0, 0, 0, 0, 0, 3, 0, 62, 0, 1, 0, 0, 0, 0, 0, 0,
+    0, 0, 0, 0, 0, 64, 0, 0, 0, 0, 0, 0, 0,
 ];
 /// The ELF header behind `e_shoff`.
 const FILE_HEADER_BACK: [u8; 16] = [0, 0, 0, 0, 64, 0, 56, 0, 1, 0, 64, 0, 3, 0, 0, 0];
@@ -40,8 +40,8 @@ const SECTIONS_FRONT: [u8; 88] = [
 ];
 /// The symbol table's header behind `sh_offset`, and that of the string table up to `sh_offset`.
 const SECTIONS_MIDDLE: [u8; 56] = [
-    48, 0, 0, 0, 0, 0, 0, 0, 2, 0, 0, 0, 0, 0, 0, 0, 0, 0, 0, 0, 0, 0, 0, 0, 24, 0, 0, 0, 0, 0, 0, 0,
-    0, 0, 0, 0, 3, 0, 0, 0, 0, 0, 0, 0, 0, 0, 0, 0, 0, 0, 0, 0, 0, 0, 0, 0,
+    48, 0, 0, 0, 0, 0, 0, 0, 2, 0, 0, 0, 0, 0, 0, 0, 0, 0, 0, 0, 0, 0, 0, 0, 24, 0, 0, 0, 0, 0, 0,
+    0, 0, 0, 0, 0, 3, 0, 0, 0, 0, 0, 0, 0, 0, 0, 0, 0, 0, 0, 0, 0, 0, 0, 0, 0,
 ];
 /// The string table's header behind `sh_offset`.
 const SECTIONS_BACK: [u8; 32] = [

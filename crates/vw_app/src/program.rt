@@ -18,9 +18,13 @@ const STANDARD_INPUT: &str = "-";
 /// The most bytes that a module's file may have.
 const LONGEST_FILE: u64 = 0x400_0000;
 
-const USAGE: &[u8] = b"usage: vw verify FILE | report FILE | check FILE REPORT | list FILE | info FILE | trace FILE FUNCTION STEPS NUMBER | make FUNCTIONS NUMBER | selftest FUNCTIONS NUMBER\n";
+const USAGE: &[u8] =
+    b"usage: vw verify FILE | report FILE | check FILE REPORT | list FILE | info FILE | trace FILE FUNCTION STEPS NUMBER | make FUNCTIONS NUMBER | selftest FUNCTIONS NUMBER\n";
+
 const SAFE: &[u8] = b"safe, functions 1\n";
+
 const NOT_BUILT: &[u8] = b"not built yet\n";
+
 const READ_FAULT: &[u8] = b"read fault\n";
 
 /// Does all that `vw` does: reads the words after the program's name, the file that they name on the
@@ -35,8 +39,8 @@ pub fn run<F: Shelf, K: Sink>(
     ensures replied { result.0 ≢ 5 → result.0 ≢ 6
         → (text : List ℕ) × Appended (K.written sink.old) (K.written sink.new) text
         × Reply (map string_bytes words.now) (F.told shelf.old standard_input)
-            (ReadFailed (F.faults shelf.old) (F.faults shelf.new) (F.opened shelf.new) (F.failed shelf.new))
-            result.0 text }
+        (ReadFailed (F.faults shelf.old) (F.faults shelf.new) (F.opened shelf.new) (F.failed shelf.new))
+        result.0 text }
 
     // Where the answer is safe, every run of every instance stays in its sandbox.
     ensures safe { result.0 ≡ 0 → (file : List ℕ) × AreTold (F.told shelf.old standard_input) file × IsSandboxedFile file }
@@ -46,8 +50,8 @@ pub fn run<F: Shelf, K: Sink>(
         → Rose (K.faults sink.old) (K.faults sink.new)
         × (status : ℕ) × (text : List ℕ) × AppendedFront (K.written sink.old) (K.written sink.new) text
         × Reply (map string_bytes words.now) (F.told shelf.old standard_input)
-            (ReadFailed (F.faults shelf.old) (F.faults shelf.new) (F.opened shelf.new) (F.failed shelf.new))
-            status text }
+        (ReadFailed (F.faults shelf.old) (F.faults shelf.new) (F.opened shelf.new) (F.failed shelf.new))
+        status text }
 
     // Memory was refused before the text was composed.
     ensures memory { result.0 ≡ 6 → (sink.new ≡ sink.old) × AsksToVerify (map string_bytes words.now) }

@@ -7,11 +7,15 @@ use byteorder::{ByteOrder, LittleEndian};
 use vw_insn::{Base, Insn, Mem, Place, Reg, Source, Width};
 
 const NOP: u8 = 0x90;
+
 const RET: u8 = 0xC3;
 /// The first byte of an opcode of two bytes.
 const ESCAPE: u8 = 0x0F;
+
 const UD2: u8 = 0x0B;
+
 const MOV_LOAD: u8 = 0x8B;
+
 const MOV_STORE: u8 = 0x89;
 /// ModRM of `eax` and `[rdi + disp32]`: mod 2, reg 0, rm 7.
 const EAX_AT_RDI: u8 = 0x87;

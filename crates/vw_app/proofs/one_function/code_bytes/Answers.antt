@@ -16,9 +16,9 @@ returns-then-end-le-CODE_START-clause-only c code is =
     let k = known is in
     let end : c.in-Ok.end ≡ 120 + length code = c.in-Ok.ensures.value ∙ k.sized in
     elim c.then-end-le-CODE_START.branch [
-      then-end-le-CODE_START-via-then-end-le-CODE_START w ↦ omega (arith, is.some, end, w.if-end-le-CODE_START.true)
-    | then-end-le-CODE_START-via-else-end-le-CODE_START+then-end w ↦ omega (arith, is.short, end, w.if-end.true)
-    | then-end-le-CODE_START-via-else-end-le-CODE_START+else-end+then-end-len w ↦ omega (arith, k.within, end, w.if-end-len.true)
+      | then-end-le-CODE_START-via-then-end-le-CODE_START w ↦ omega (arith, is.some, end, w.if-end-le-CODE_START.true)
+      | then-end-le-CODE_START-via-else-end-le-CODE_START+then-end w ↦ omega (arith, is.short, end, w.if-end.true)
+      | then-end-le-CODE_START-via-else-end-le-CODE_START+else-end+then-end-len w ↦ omega (arith, k.within, end, w.if-end-len.true)
     ]
 
 pub returns-clause-only : goal.returns-clause-only

@@ -15,6 +15,6 @@ pub returns-clause-none : goal.returns-clause-none
 returns-clause-none c i len stands =
     let shape = (stands_shape stands).moves (is_mov c.args.loads _ c.requires.opcode) in
     elim c.else-rest-ge-MOV_LEN.branch [
-      else-rest-ge-MOV_LEN-via-then-rest-ge-MOV_LEN+else-code-at w ↦ w.if-code-at.false shape.1
-    | else-rest-ge-MOV_LEN-via-else-rest-ge-MOV_LEN w ↦ absurd (omega (arith, shape.0))
+      | else-rest-ge-MOV_LEN-via-then-rest-ge-MOV_LEN+else-code-at w ↦ w.if-code-at.false shape.1
+      | else-rest-ge-MOV_LEN-via-else-rest-ge-MOV_LEN w ↦ absurd (omega (arith, shape.0))
     ]

@@ -10,6 +10,6 @@ pub returns-clause-none : goal.returns-clause-none
 returns-clause-none c i len stands =
     let shape = (stands_shape stands).escape c.requires.escape in
     elim c.else-rest-ge2.branch [
-      else-rest-ge2-via-then-rest-ge2+else-code-at-eq-UD2 w ↦ w.if-code-at-eq-UD2.false shape.1
-    | else-rest-ge2-via-else-rest-ge2 w ↦ absurd (omega (arith, shape.0))
+      | else-rest-ge2-via-then-rest-ge2+else-code-at-eq-UD2 w ↦ w.if-code-at-eq-UD2.false shape.1
+      | else-rest-ge2-via-else-rest-ge2 w ↦ absurd (omega (arith, shape.0))
     ]

@@ -1,0 +1,292 @@
+ghost use Rattle.std.specs.Prelude.{◌≡◌, ◌^◌, ◌≤◌, ◌<◌, Some, length, IfOk};
+
+use crate::one_function::module_with;
+use crate::program::run;
+use crate::status::Status;
+use bitflags::Flags;
+use std::alloc::Global;
+use std::test::Fail;
+use vw_bits::{List, Rights, Text, low32, read_u16, read_u32, read_u64, sign_extend, sum};
+use vw_outside::{Failed, MemoryShelf, MemorySink, NeverFails, Shelf, ShelfFile, Sink};
+
+const USAGE: &str =
+    "usage: vw verify FILE | report FILE | check FILE REPORT | list FILE | info FILE | trace FILE FUNCTION STEPS NUMBER | make FUNCTIONS NUMBER | selftest FUNCTIONS NUMBER\n";
+
+fn strings(alloc: Global, words: &[&str]) -> Result<Vec<String>, Fail> {
+    let mut strings = Vec::new(alloc);
+    for word in words {
+        strings.push(String::from_str(alloc, word)?)?;
+    }
+    Ok(strings)
+}
+
+fn numbers(alloc: Global, items: &[u64]) -> Result<List<u64>, Fail> {
+    let mut list = List::new(alloc);
+    for item in items {
+        list.push(*item)?;
+    }
+    Ok(list)
+}
+
+// A shelf with one file, whose calls with these numbers fail.
+fn shelf(alloc: Global, name: &str, bytes: &[u8], fail: &[u64]) -> Result<MemoryShelf, Fail> {
+    let mut text = Text::new(alloc);
+    text.push(name.as_bytes())?;
+    let mut files = List::new(alloc);
+    files.push(ShelfFile {
+        name: text,
+        bytes: List::from_vec(bytes.to_vec(alloc)?),
+    })?;
+    Ok(MemoryShelf::new(files, numbers(alloc, fail)?))
+}
+
+// The status and what is taken of the answer to the words, where the sink's first write may fail.
+fn answer<F: Shelf>(
+    alloc: Global,
+    words: &[&str],
+    shelf: &mut F,
+    fail: &[u64],
+) -> Result<(Status, MemorySink), Fail> {
+    let words = strings(alloc, words)?;
+    let mut sink = MemorySink::new(alloc, numbers(alloc, fail)?);
+    let status = run(alloc, words.as_slice(), shelf, &mut sink);
+    Ok((status, sink))
+}
+
+fn module(alloc: Global, code: &[u8]) -> Result<Text, Fail>
+    requires { length code.now ≤ 2 ^ 20 }
+{
+    Ok(module_with(alloc, code)?)
+}
+
+// Functions on standard input, by their code.
+#[test]
+fn verdicts(rt: HostRuntime) -> Result<(), Fail> {
+    let alloc = rt.alloc();
+    let cases: [(&str, u8, &str); 9] = [
+        ("8b8700000000c3", 0, "safe, functions 1\n"),
+        ("8b87f8ffffffc3", 1, "unsafe, f+0x0, C4 address\n"),
+        ("8b87f8ffffff90", 1, "unsafe, f+0x7, C1 code\n"),
+        ("8987ffffff7f0f0b", 0, "safe, functions 1\n"),
+        ("4090c3", 8, "not built yet\n"),
+        ("90", 1, "unsafe, f+0x1, C1 code\n"),
+        ("0f0b", 0, "safe, functions 1\n"),
+        (
+            "90908987000000808b87ffffffffc3",
+            1,
+            "unsafe, f+0x2, C4 address\n",
+        ),
+        ("90900f0c", 8, "not built yet\n"),
+    ];
+    for (hex, status, text) in cases {
+        let code = from_hex(alloc, hex)?;
+        assert!(rt; code.len() <= 100);
+        let file = module(alloc, code.as_slice())?;
+        let (got, sink) = answer(
+            alloc,
+            &["verify", "-"],
+            &mut shelf(alloc, "-", file.as_slice(), &[])?,
+            &[],
+        )?;
+        assert_eq!(rt; got, Status(status), "{hex}");
+        assert_eq!(rt; sink.taken(), text.as_bytes(), "{hex}");
+    }
+    Ok(())
+}
+
+fn from_hex(alloc: Global, hex: &str) -> Result<Vec<u8>, Fail> {
+    let mut bytes = Vec::new(alloc);
+    for pair in hex.as_bytes().chunks(2) {
+        if let [high, low] = pair {
+            bytes.push(digit(*high) * 16 + digit(*low))?;
+        }
+    }
+    Ok(bytes)
+}
+
+fn digit(glyph: u8) -> u8
+    ensures { result < 16 }
+{
+    match glyph {
+        b'0'..=b'9' => glyph - b'0',
+        b'a'..=b'f' => glyph - b'a' + 10,
+        _ => 0,
+    }
+}
+
+// Other words, other files, and an outside that fails.
+#[test]
+fn words_and_outside(rt: HostRuntime) -> Result<(), Fail> {
+    let alloc = rt.alloc();
+    let file = module(alloc, &[0x8B, 0x87, 0, 0, 0, 0, 0xC3])?;
+    let file = file.as_slice();
+    assert_eq!(rt; file.len(), 376);
+
+    for words in [
+        [].as_slice(),
+        &["verify"],
+        &["-", "verify"],
+        &["verify", "-", "-"],
+        &["verify", "m"],
+        &["list", "-"],
+    ] {
+        let (status, sink) = answer(alloc, words, &mut shelf(alloc, "-", file, &[])?, &[])?;
+        assert_eq!(rt; status, Status(3));
+        assert_eq!(rt; sink.taken(), USAGE.as_bytes());
+    }
+
+    // An open, the piece with the whole file, and the read that finds its end.
+    for call in 1..=3 {
+        let (status, sink) = answer(
+            alloc,
+            &["verify", "-"],
+            &mut shelf(alloc, "-", file, &[call])?,
+            &[],
+        )?;
+        assert_eq!(rt; status, Status(4), "call {call}");
+        assert_eq!(rt; sink.taken(), b"read fault\n".as_slice(), "call {call}");
+    }
+    let (status, sink) = answer(
+        alloc,
+        &["verify", "-"],
+        &mut shelf(alloc, "-", file, &[4])?,
+        &[],
+    )?;
+    assert_eq!(rt; status, Status(0));
+    assert_eq!(rt; sink.taken(), b"safe, functions 1\n".as_slice());
+
+    // The shelf has no such file.
+    let (status, _) = answer(
+        alloc,
+        &["verify", "-"],
+        &mut shelf(alloc, "m", file, &[])?,
+        &[],
+    )?;
+    assert_eq!(rt; status, Status(4));
+
+    let (status, sink) = answer(
+        alloc,
+        &["verify", "-"],
+        &mut shelf(alloc, "-", file, &[])?,
+        &[1],
+    )?;
+    assert_eq!(rt; status, Status(5));
+    assert_eq!(rt; sink.taken(), b"".as_slice());
+
+    // No file, a file that is cut short, one with a byte more, and one longer than any module.
+    let mut longer = file.to_vec(alloc)?;
+    longer.push(0)?;
+    let longest = zeros(alloc, 67_108_865)?;
+    for bytes in [
+        b"".as_slice(),
+        &file[..375],
+        longer.as_slice(),
+        longest.as_slice(),
+    ] {
+        let mut shelf = NeverFails::new(List::from_vec(bytes.to_vec(alloc)?));
+        let (status, sink) = answer(alloc, &["verify", "-"], &mut shelf, &[])?;
+        assert_eq!(rt; status, Status(8), "{} bytes", bytes.len());
+        assert_eq!(rt; sink.taken(), b"not built yet\n".as_slice());
+    }
+
+    // A sink that takes one byte at a time and then fails.
+    for room in [0u8, 5, 18] {
+        let words = strings(alloc, &["verify", "-"])?;
+        let mut sink = Narrow {
+            taken: Vec::new(alloc),
+            room,
+            faults: 0,
+        };
+        let status = run(
+            alloc,
+            words.as_slice(),
+            &mut shelf(alloc, "-", file, &[])?,
+            &mut sink,
+        );
+        assert_eq!(rt; status, Status(if room < 18 { 5 } else { 0 }));
+        assert_eq!(rt;
+            sink.taken.as_slice(),
+            &b"safe, functions 1\n"[..room as usize]
+        );
+    }
+    Ok(())
+}
+
+fn zeros(alloc: Global, count: usize) -> Result<Vec<u8>, Fail> {
+    Ok(vec![in alloc; 0u8; count]?)
+}
+
+// A sink that takes a byte of each piece, up to a number of bytes.
+#[derive(Drop)]
+struct Narrow {
+    taken: Vec<u8>,
+    room: u8,
+    faults: u64,
+    ghost small: { faults < 2 ^ 64 },
+}
+
+impl Sink for Narrow {
+    ghost written = { λ s. Some s.taken.items };
+
+    ghost faults = { λ s. s.faults };
+
+    fn write(&mut self, piece: &[u8]) -> Result<usize, Failed> {
+        if piece.is_empty() {
+            return Ok(0);
+        }
+        if self.room == 0 || self.taken.push(piece[0]).is_err() {
+            self.faults = self.faults.saturating_add(1);
+            return Err(Failed);
+        }
+        self.room -= 1;
+        Ok(1)
+    }
+}
+
+#[test]
+fn words_fields_and_text(rt: HostRuntime) -> Result<(), Fail> {
+    let alloc = rt.alloc();
+
+    assert_eq!(rt; sum(u64::MAX, 2), 1);
+    assert_eq!(rt; low32(0x1_2345_6789), 0x2345_6789);
+    // Values of MOVSX and MOVSXD by the Intel SDM.
+    assert_eq!(rt; sign_extend(0x1_80, 1), 0xFFFF_FFFF_FFFF_FF80);
+    assert_eq!(rt; sign_extend(0x7F, 1), 0x7F);
+    assert_eq!(rt; sign_extend(0x8000, 2), 0xFFFF_FFFF_FFFF_8000);
+    assert_eq!(rt; sign_extend(0x8000_0000, 4), 0xFFFF_FFFF_8000_0000);
+    assert_eq!(rt; sign_extend(0x8000_0000, 8), 0x8000_0000);
+
+    // The magic number of ELF and the machine EM_X86_64 as the gABI lays them out.
+    let header = [0x7F, 0x45, 0x4C, 0x46, 2, 1, 1, 0, 62, 0];
+    assert_eq!(rt; read_u32(&header, 0).ok(), Some(0x464C_457F));
+    assert_eq!(rt; read_u16(&header, 8).ok(), Some(62));
+    assert_eq!(rt; read_u64(&header, 0).ok(), Some(0x0001_0102_464C_457F));
+    assert_eq!(rt; read_u64(&header, 3).err().map(|short| short.at), Some(3));
+    assert_eq!(rt;
+        read_u16(&header, u64::MAX).err().map(|short| short.at),
+        Some(u64::MAX)
+    );
+
+    let mut list = List::new(alloc);
+    for item in [3u32, 5, 8] {
+        list.push(item)?;
+    }
+    list.truncate(2);
+    assert_eq!(rt; list.as_slice(), [3u32, 5].as_slice());
+
+    let mut text = Text::new(alloc);
+    text.push(b"at ")?;
+    text.hex(0xBEEF, 8)?;
+    text.push(b" of ")?;
+    text.dec(1_048_576)?;
+    text.push(b", ")?;
+    text.hex(0, 1)?;
+    text.hex(0x1F, 1)?;
+    assert_eq!(rt; text.as_slice(), b"at 0000beef of 1048576, 01f".as_slice());
+    text.truncate(2);
+    assert_eq!(rt; text.as_slice(), b"at".as_slice());
+
+    let code = Rights::from_bits_retain(5);
+    assert!(rt; code.contains(Rights::X) && code.contains(Rights::R) && !code.contains(Rights::W));
+    Ok(())
+}
