@@ -5,6 +5,7 @@ use crate::program::run;
 use crate::status::Status;
 use bitflags::Flags;
 use std::alloc::Global;
+use std::process::Abort;
 use std::test::Fail;
 use vw_bits::{List, Rights, Text, low32, read_u16, read_u32, read_u64, sign_extend, sum};
 use vw_outside::{Failed, MemoryShelf, MemorySink, NeverFails, Shelf, ShelfFile, Sink};
@@ -82,14 +83,8 @@ fn verdicts(rt: HostRuntime) -> Result<(), Fail> {
         let code = from_hex(alloc, hex)?;
         assert!(rt; code.len() <= 100);
         let file = module(alloc, code.as_slice())?;
-        let (got, sink) = answer(
-            alloc,
-            &["verify", "-"],
-            &mut shelf(alloc, "-", file.as_slice(), &[])?,
-            &[],
-        )?;
-        assert_eq!(rt; got, Status(status), "{hex}");
-        assert_eq!(rt; sink.taken(), text.as_bytes(), "{hex}");
+        let mut shelf = shelf(alloc, "-", file.as_slice(), &[])?;
+        expect(&rt, &["verify", "-"], &mut shelf, &[], (status, text))?;
     }
     Ok(())
 }
@@ -114,14 +109,28 @@ fn digit(glyph: u8) -> u8
     }
 }
 
-// Other words, other files, and an outside that fails.
-#[test]
-fn words_and_outside(rt: HostRuntime) -> Result<(), Fail> {
-    let alloc = rt.alloc();
-    let file = module(alloc, &[0x8B, 0x87, 0, 0, 0, 0, 0xC3])?;
-    let file = file.as_slice();
-    assert_eq!(rt; file.len(), 376);
+// Asserts the status and the text of an answer.
+fn expect<F: Shelf>(
+    rt: &(impl Abort + AllocGlobal),
+    words: &[&str],
+    shelf: &mut F,
+    fail: &[u64],
+    (status, text): (u8, &str),
+) -> Result<(), Fail> {
+    let (got, sink) = answer(rt.alloc(), words, shelf, fail)?;
+    assert_eq!(rt; got, Status(status));
+    assert_eq!(rt; sink.taken(), text.as_bytes());
+    Ok(())
+}
 
+fn heap_read(alloc: Global) -> Result<Text, Fail> {
+    module(alloc, &[0x8B, 0x87, 0, 0, 0, 0, 0xC3])
+}
+
+// Words that are no form of the program.
+#[test]
+fn words(rt: HostRuntime) -> Result<(), Fail> {
+    let file = heap_read(rt.alloc())?;
     for words in [
         [].as_slice(),
         &["verify"],
@@ -130,84 +139,76 @@ fn words_and_outside(rt: HostRuntime) -> Result<(), Fail> {
         &["verify", "m"],
         &["list", "-"],
     ] {
-        let (status, sink) = answer(alloc, words, &mut shelf(alloc, "-", file, &[])?, &[])?;
-        assert_eq!(rt; status, Status(3));
-        assert_eq!(rt; sink.taken(), USAGE.as_bytes());
+        let mut shelf = shelf(rt.alloc(), "-", file.as_slice(), &[])?;
+        expect(&rt, words, &mut shelf, &[], (3, USAGE))?;
     }
+    Ok(())
+}
 
-    // An open, the piece with the whole file, and the read that finds its end.
-    for call in 1..=3 {
-        let (status, sink) = answer(
-            alloc,
-            &["verify", "-"],
-            &mut shelf(alloc, "-", file, &[call])?,
-            &[],
-        )?;
-        assert_eq!(rt; status, Status(4), "call {call}");
-        assert_eq!(rt; sink.taken(), b"read fault\n".as_slice(), "call {call}");
+// An open, the piece with the whole file, and the read that finds its end: each may fail. So may the
+// first write, and a shelf may lack the file.
+#[test]
+fn faults(rt: HostRuntime) -> Result<(), Fail> {
+    let file = heap_read(rt.alloc())?;
+    assert_eq!(rt; file.as_slice().len(), 376);
+    let fault = (4, "read fault\n");
+    let safe = (0, "safe, functions 1\n");
+    let cases: [(&str, &[u64], &[u64], (u8, &str)); 6] = [
+        ("-", &[1], &[], fault),
+        ("-", &[2], &[], fault),
+        ("-", &[3], &[], fault),
+        ("-", &[4], &[2], safe),
+        ("m", &[], &[], fault),
+        ("-", &[], &[1], (5, "")),
+    ];
+    for (name, reads, writes, answer) in cases {
+        let mut shelf = shelf(rt.alloc(), name, file.as_slice(), reads)?;
+        expect(&rt, &["verify", "-"], &mut shelf, writes, answer)?;
     }
-    let (status, sink) = answer(
-        alloc,
-        &["verify", "-"],
-        &mut shelf(alloc, "-", file, &[4])?,
-        &[],
-    )?;
-    assert_eq!(rt; status, Status(0));
-    assert_eq!(rt; sink.taken(), b"safe, functions 1\n".as_slice());
+    Ok(())
+}
 
-    // The shelf has no such file.
-    let (status, _) = answer(
-        alloc,
-        &["verify", "-"],
-        &mut shelf(alloc, "m", file, &[])?,
-        &[],
-    )?;
-    assert_eq!(rt; status, Status(4));
-
-    let (status, sink) = answer(
-        alloc,
-        &["verify", "-"],
-        &mut shelf(alloc, "-", file, &[])?,
-        &[1],
-    )?;
-    assert_eq!(rt; status, Status(5));
-    assert_eq!(rt; sink.taken(), b"".as_slice());
-
-    // No file, a file that is cut short, one with a byte more, and one longer than any module.
-    let mut longer = file.to_vec(alloc)?;
+// No file, a file that is cut short, one with a byte more, and one longer than any module.
+#[test]
+fn files(rt: HostRuntime) -> Result<(), Fail> {
+    let file = heap_read(rt.alloc())?;
+    let file = file.as_slice();
+    let short = &file[..file.len().min(375)];
+    let mut longer = file.to_vec(rt.alloc())?;
     longer.push(0)?;
-    let longest = zeros(alloc, 67_108_865)?;
-    for bytes in [
-        b"".as_slice(),
-        &file[..375],
-        longer.as_slice(),
-        longest.as_slice(),
-    ] {
-        let mut shelf = NeverFails::new(List::from_vec(bytes.to_vec(alloc)?));
-        let (status, sink) = answer(alloc, &["verify", "-"], &mut shelf, &[])?;
-        assert_eq!(rt; status, Status(8), "{} bytes", bytes.len());
-        assert_eq!(rt; sink.taken(), b"not built yet\n".as_slice());
+    let longest = zeros(rt.alloc(), 67_108_865)?;
+    for bytes in [b"".as_slice(), short, longer.as_slice(), longest.as_slice()] {
+        let mut shelf = NeverFails::new(List::from_vec(bytes.to_vec(rt.alloc())?));
+        expect(
+            &rt,
+            &["verify", "-"],
+            &mut shelf,
+            &[],
+            (8, "not built yet\n"),
+        )?;
     }
+    Ok(())
+}
 
-    // A sink that takes one byte at a time and then fails.
-    for room in [0u8, 5, 18] {
-        let words = strings(alloc, &["verify", "-"])?;
+// A sink that takes one byte at a time and then fails.
+#[test]
+fn narrow_sinks(rt: HostRuntime) -> Result<(), Fail> {
+    let file = heap_read(rt.alloc())?;
+    let words = strings(rt.alloc(), &["verify", "-"])?;
+    for (room, status, taken) in [
+        (0u8, 5, ""),
+        (5, 5, "safe,"),
+        (18, 0, "safe, functions 1\n"),
+    ] {
         let mut sink = Narrow {
-            taken: Vec::new(alloc),
+            taken: Vec::new(rt.alloc()),
             room,
             faults: 0,
         };
-        let status = run(
-            alloc,
-            words.as_slice(),
-            &mut shelf(alloc, "-", file, &[])?,
-            &mut sink,
-        );
-        assert_eq!(rt; status, Status(if room < 18 { 5 } else { 0 }));
-        assert_eq!(rt;
-            sink.taken.as_slice(),
-            &b"safe, functions 1\n"[..room as usize]
-        );
+        let mut shelf = shelf(rt.alloc(), "-", file.as_slice(), &[])?;
+        let got = run(rt.alloc(), words.as_slice(), &mut shelf, &mut sink);
+        assert_eq!(rt; got, Status(status));
+        assert_eq!(rt; sink.taken.as_slice(), taken.as_bytes());
     }
     Ok(())
 }
