@@ -1,10 +1,9 @@
 -- From the parts of the program to the answer.
-use Rattle.std.proofs.Common.{◌≡◌, ◌≢◌, ◌⊎◌, inl, inr, ℕ, ◌+◌, ◌-◌, ◌*◌, ◌/◌, ◌^◌, ◌≤◌, ◌<◌, List, [], length, get_or, take, drop, Fits, w8, replicate, ◌++◌, length-append, Option, Some, None, IfSome, Bool, true, false, refl, sym, ◌∙◌, ap, subst, arith}
-use Rattle.std.proofs.lemmas.List.{length-drop, get_or-drop}
-use Rattle.std.proofs.Math.ListN.{length-replicate}
+use Rattle.std.proofs.Common.{◌≡◌, ◌≢◌, ℕ, ◌+◌, ◌^◌, ◌<◌, List, [], length, get_or, drop, Fits, w8, Option, Some, None, IfSome, Bool, true, false, refl, sym, ◌∙◌, ap, subst, arith}
+use Rattle.std.proofs.lemmas.List.{get_or-drop}
 use Rattle.vw_app.specs.declared.status.Status.{Status}
-use Rattle.vw_app.specs.Answer.{Reply, usage, read_fault, judged, Judged, safe, unsafe, unbuilt, HasFirstForm, AsksToVerify, AreTold, usage_line, read_fault_line, safe_line, unbuilt_line, unsafe_line}
-use Rattle.vw_app.specs.OneFunction.{IsOneFunction, one_function}
+use Rattle.vw_app.specs.Answer.{Reply, judged, Judged, safe, unsafe, unbuilt, AsksToVerify, AreTold, safe_line, unbuilt_line, unsafe_line}
+use Rattle.vw_app.specs.OneFunction.{IsOneFunction}
 use Rattle.vw_app.specs.Walk.{IsBuilt, IsSafe, Fails, runs_off, below_base}
 use Rattle.vw_app.specs.Sandboxed.{IsSandboxedFile}
 use Rattle.vw_app.proofs.Runs.{sandboxed, take_bytes}

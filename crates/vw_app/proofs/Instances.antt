@@ -1,14 +1,11 @@
 -- Addresses in an instance that is laid out well.
-use Rattle.std.proofs.Common.{◌≡◌, ◌≢◌, ◌⊎◌, inl, inr, ℤ, pos, negsuc, ◌<ℤ◌, ℕ, zero, suc, ◌+◌, ◌-◌, ◌*◌, ◌%◌, ◌^◌, ◌≤◌, ◌<◌, ◌==◌, ◌&&◌, Bool, true, false, if◌then◌else◌, List, [], ◌∷◌, length, get_or, take, drop, slice_index, refl, sym, ◌∙◌, ap, subst, arith, lit<, w32}
+use Rattle.std.proofs.Common.{◌≡◌, ℤ, pos, negsuc, ◌<ℤ◌, ℕ, zero, suc, ◌+◌, ◌-◌, ◌%◌, ◌^◌, ◌≤◌, ◌<◌, List, refl, arith, lit<, w32}
 use Rattle.std.proofs.lemmas.Int.{ints}
-use Rattle.std.specs.Prelude.{nat_le, nat_lt}
-use Rattle.std.proofs.lemmas.Bool.Decides.{nat_tests}
 use mir.Val.{SFits}
 use Rattle.vw_bits.specs.Fields.{load}
 use Rattle.vw_insn.specs.Words.{word_of}
-use Rattle.vw_insn.specs.Effect.{Write}
-use Rattle.vw_app.specs.World.{Range, World, IsLaidOut, IsIn, IsWithin, is_within, AreApart, stack_range, heap_range, instance_ranges}
-use Rattle.vw_app.specs.Machine.{stored, is_in_write, Bytes}
+use Rattle.vw_app.specs.World.{Range, World, IsLaidOut}
+use Rattle.vw_app.specs.Machine.{Bytes}
 
 module _ {image : List Range} {imports : ℕ} {w : World} (laid : IsLaidOut image imports w) where
   pub heap_ends : w.heap + 2 ^ 33 ≤ 2 ^ 47

@@ -1,19 +1,16 @@
 -- Facts about the definitions.
-use Rattle.std.proofs.Common.{◌≡◌, ◌≢◌, ◌⊎◌, inl, inr, ℕ, zero, suc, ◌+◌, ◌-◌, ◌*◌, ◌/◌, ◌%◌, ◌^◌, ◌≤◌, ◌<◌, ◌==◌, ◌&&◌, Bool, true, false, if◌then◌else◌, List, [], ◌∷◌, length, get_or, take, drop, refl, sym, ◌∙◌, ap, subst, arith, lit<, lit≤}
-use Rattle.std.specs.Prelude.{nat_le, nat_lt, Contains, AllPairs}
+use Rattle.std.proofs.Common.{◌≡◌, ◌⊎◌, inl, inr, ℕ, zero, suc, ◌+◌, ◌-◌, ◌^◌, ◌≤◌, ◌<◌, ◌==◌, Bool, true, false, if◌then◌else◌, List, [], ◌∷◌, length, refl, arith, lit<, lit≤}
+use Rattle.std.specs.Prelude.{nat_le, Contains, AllPairs}
 use Rattle.std.proofs.lemmas.Bool.Decides.{nat_tests}
-use Rattle.vw_bits.specs.Fields.{load}
 use Rattle.vw_insn.specs.declared.instruction.Insn.{Insn}
-use Rattle.vw_insn.specs.Words.{Registers, Flags}
 use Rattle.vw_insn.specs.Effect.{Way, Ordinary, Return, Unlisted}
-use Rattle.vw_app.specs.World.{World, Range, IsLaidOut, IsIn, IsWithin, AreApart, instance_ranges, globals_range}
-use Rattle.vw_app.specs.Module.{Module, Function, module_of, bytes_from}
-use Rattle.vw_app.specs.Machine.{Activation, State, Here, Code, StandsAt, IsSpelledAt}
-use Rattle.vw_app.specs.Permitted.{Reads, Writes, Goes, MayDo, MayRead, MayWrite}
+use Rattle.vw_app.specs.World.{World, Range, IsLaidOut, AreApart, instance_ranges, globals_range}
+use Rattle.vw_app.specs.Module.{Module, Function, module_of}
+use Rattle.vw_app.specs.Machine.{Activation, State, Code, StandsAt}
+use Rattle.vw_app.specs.Permitted.{Reads, Writes, MayDo, MayRead, MayWrite}
 use Rattle.vw_app.specs.Sandboxed.{IsInitial}
-use Rattle.vw_app.specs.Spelling.{Spells}
 use Rattle.vw_app.specs.Laws.{IsFramed}
-use Rattle.vw_app.proofs.Instances.{heap_ends, stack_ends, heap_or_stack}
+use Rattle.vw_app.proofs.Instances.{heap_ends, heap_or_stack}
 use Rattle.vw_app.proofs.Spellings.{spelled_once}
 
 by_order : (a b : ℕ) (is : Bool) → nat_le a b ≡ is → (a ≤ b) ⊎ (b < a)

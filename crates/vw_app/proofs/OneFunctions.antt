@@ -1,12 +1,11 @@
 -- The file of one function: its fields, and where its code is.
-use Rattle.std.proofs.Common.{◌≡◌, ◌⊎◌, ℕ, ◌+◌, ◌-◌, ◌*◌, ◌^◌, ◌≤◌, ◌<◌, List, [], ◌++◌, length, get_or, take, drop, append_assoc, length-append, refl, sym, ◌∙◌, ap, subst, arith, lit<}
+use Rattle.std.proofs.Common.{◌≡◌, ℕ, ◌+◌, ◌-◌, ◌^◌, ◌≤◌, ◌<◌, List, [], ◌++◌, length, get_or, take, drop, append_assoc, length-append, refl, sym, ◌∙◌, ap, subst, arith}
 use Rattle.std.proofs.lemmas.List.{length-drop, get_or-drop}
 use Rattle.std.proofs.Math.Seq.{take-append_seam}
 use Rattle.std.proofs.Math.ListN.{length-replicate, get_or-append}
 use Rattle.byteorder.specs.Numbers.{little_number-reads_back}
-use Rattle.byteorder.specs.Endian.{little_bytes, little_number}
 use Rattle.vw_bits.specs.Fields.{field}
-use Rattle.vw_app.specs.OneFunction.{one_function, IsOneFunction, code_start, longest_code, zeros, rounded_up, file_header, segment_header, symbols, sections}
+use Rattle.vw_app.specs.OneFunction.{one_function, IsOneFunction, zeros, rounded_up, file_header, segment_header, symbols, sections}
 
 -- what follows the code in the file
 behind : List ℕ → List ℕ

@@ -1,9 +1,9 @@
 -- A safe walk keeps every run of the function in its sandbox.
-use Rattle.std.proofs.Common.{◌≡◌, ◌≢◌, ◌⊎◌, inl, inr, ℤ, pos, negsuc, ◌<ℤ◌, ℕ, zero, suc, ◌+◌, ◌-◌, ◌*◌, ◌/◌, ◌%◌, ◌^◌, ◌≤◌, ◌<◌, ◌==◌, ◌&&◌, ◌||◌, Bool, true, false, if◌then◌else◌, List, [], ◌∷◌, ◌++◌, length, get_or, take, drop, slice_index, map, refl, sym, ◌∙◌, ap, subst, arith, lit<, w32}
-use Rattle.std.specs.Prelude.{nat_le, nat_lt, Contains}
-use Rattle.std.specs.List.{AllByRecursion, list_any}
+use Rattle.std.proofs.Common.{◌≡◌, ◌≢◌, inl, pos, ◌<ℤ◌, ℕ, zero, suc, ◌+◌, ◌-◌, ◌%◌, ◌^◌, ◌≤◌, ◌<◌, ◌==◌, ◌&&◌, Bool, true, false, if◌then◌else◌, List, [], ◌∷◌, length, get_or, take, drop, slice_index, refl, sym, ◌∙◌, ap, subst, arith, lit<, w32}
+use Rattle.std.specs.Prelude.{nat_le, Contains}
+use Rattle.std.specs.List.{AllByRecursion}
 use Rattle.std.proofs.lemmas.Bool.Decides.{nat_tests}
-use Rattle.std.proofs.lemmas.List.{drop_more, get_or-drop, length-append}
+use Rattle.std.proofs.lemmas.List.{drop_more, get_or-drop}
 use mir.Val.{SFits}
 use Rattle.std.proofs.Math.Facts.{sfits_to_z}
 use Rattle.vw_bits.specs.Fields.{load, field}
@@ -11,15 +11,14 @@ use Rattle.vw_insn.specs.declared.instruction.Insn.{Insn}
 use Rattle.vw_insn.specs.declared.instruction.Insn.TheVariants as insn
 use Rattle.vw_insn.specs.declared.registers.Width.TheVariants.{W32}
 use Rattle.vw_insn.specs.Words.{Registers, Flags, put, word_of, low as low_bits}
-use Rattle.vw_insn.specs.Effect.{Open, Access, Write, After, Transfer, Next, Back, Stop, reads, effect, raised}
-use Rattle.vw_app.specs.OneFunction.{one_function, code_start}
-use Rattle.vw_app.specs.Spelling.{Spells, nop, ud2, mov_load, mov_store, ret, load_eax, store_eax, displacement, at_rdi}
-use Rattle.vw_app.specs.Walk.{BeginsAt, goes_on, IsNegative, IsBelowBase, Reaches, Comes, here, on, IsSafe}
-use Rattle.vw_app.specs.World.{Range, World, IsLaidOut, IsIn, IsWithin, is_within, AreApart, stack_range, heap_range, guard_range, loaded_range}
-use Rattle.vw_app.specs.Module.{Module, Function, module_of, bytes_from}
-use Rattle.vw_app.specs.Machine.{Bytes, Activation, State, Choice, Here, Code, IsSpelledAt, StandsAt, loads, loaded, after_insn, is_in_image, stored, is_in_write, marked, accesses, does_trap, Outcome, Went, Returned, Trapped, arrive, left, go, step, function_range}
-use Rattle.vw_app.specs.Permitted.{Event, Reads, Writes, Goes, events, Permitted, MayRead, MayWrite, StaysInside}
-use Rattle.vw_app.specs.Sandboxed.{IsInitial, IsKept, Onward, goes_on as went_on, returns, traps, StaysSafe, IsSandboxed}
+use Rattle.vw_insn.specs.Effect.{Write, raised}
+use Rattle.vw_app.specs.Spelling.{Spells, nop, ud2, mov_load, mov_store, ret, load_eax, store_eax, displacement}
+use Rattle.vw_app.specs.Walk.{BeginsAt, goes_on, IsNegative, Reaches, here, on, IsSafe}
+use Rattle.vw_app.specs.World.{Range, World, IsLaidOut, IsWithin, is_within, stack_range, heap_range}
+use Rattle.vw_app.specs.Module.{Function, module_of, bytes_from}
+use Rattle.vw_app.specs.Machine.{Bytes, Activation, State, Choice, Code, IsSpelledAt, loads, stored, is_in_write, Outcome, Went, Returned, Trapped, arrive, step}
+use Rattle.vw_app.specs.Permitted.{Event, events, Permitted, StaysInside}
+use Rattle.vw_app.specs.Sandboxed.{IsKept, Onward, goes_on as went_on, returns, traps, StaysSafe, IsSandboxed}
 use Rattle.vw_app.proofs.OneFunctions.{byte_of_code}
 use Rattle.vw_app.proofs.Instances.{heap_ends, stack_ends, heap_or_stack, heap_address, load_same}
 

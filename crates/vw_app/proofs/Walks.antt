@@ -1,12 +1,12 @@
 -- The walk point by point.
-use Rattle.std.proofs.Common.{◌≡◌, ◌≢◌, ◌⊎◌, inl, inr, ℕ, ◌+◌, ◌≤◌, ◌<◌, Bool, true, false, Option, Some, None, List, length, get_or, IfSome, refl, sym, ◌∙◌, ap, subst, arith}
+use Rattle.std.proofs.Common.{◌≡◌, ◌⊎◌, inl, inr, ℕ, ◌+◌, ◌≤◌, ◌<◌, true, false, Option, Some, None, List, length, get_or, IfSome, refl, sym, ◌∙◌, ap, subst, arith}
 use Rattle.vw_insn.specs.declared.instruction.Insn.{Insn}
-use Rattle.vw_app.specs.Walk.{BeginsAt, goes_on, memory_of, Comes, here, on, Reaches, IsBuilt, IsNegative, IsBelowBase, IsSafe, Fails, runs_off, below_base}
+use Rattle.vw_app.specs.Walk.{BeginsAt, goes_on, Comes, here, on, Reaches, IsBuilt, IsNegative, IsBelowBase, Fails, runs_off, below_base}
 use Rattle.vw_app.specs.declared.check.Check.TheVariants as check
 use Rattle.vw_app.specs.declared.walk.Finding.{Finding}
 use Rattle.vw_app.specs.declared.walk.Finding.TheVariants as finds
 use Rattle.vw_app.specs.Found.{Found}
-use Rattle.vw_app.proofs.Spellings.{stands_once, stands_shape, size_by, size_by-pos}
+use Rattle.vw_app.proofs.Spellings.{stands_once, stands_shape, size_by-pos}
 
 pub Comes-from : {code : List ℕ} {from q : ℕ} → Comes code from q → from ≤ q
 Comes-from here = omega arith

@@ -1,5 +1,5 @@
 -- A module as the machine sees it: the bytes of its image and where its functions are.
-use Rattle.std.specs.Prelude.{◌≡◌, ℕ, zero, suc, ◌+◌, Bool, true, List, [], ◌∷◌, length, slice_index, nat_lt}
+use Rattle.std.specs.Prelude.{ℕ, zero, suc, ◌+◌, Bool, List, [], ◌∷◌, length, slice_index, nat_lt}
 use Rattle.vw_app.specs.World.{World, Range}
 use Rattle.vw_app.specs.OneFunction.{one_function, code_start}
 

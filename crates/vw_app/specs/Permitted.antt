@@ -1,8 +1,7 @@
 -- The events of a step, and which of them a sandbox permits.
-use Rattle.std.specs.Prelude.{◌≡◌, ℕ, ◌+◌, ◌-◌, ◌^◌, ◌<◌, ◌≤◌, ◌⊎◌, Bool, true, if◌then◌else◌, List, [], ◌∷◌, ◌++◌, map}
-use Rattle.vw_insn.specs.declared.instruction.Insn.{Insn}
-use Rattle.vw_insn.specs.Effect.{Access, Write, After, Transfer, Next, Back, Stop, Unstated, Way, Ordinary, Return, Unlisted, way, reads}
-use Rattle.vw_app.specs.World.{Range, World, IsWithin, heap_range, globals_range}
+use Rattle.std.specs.Prelude.{◌≡◌, ℕ, ◌+◌, ◌-◌, ◌<◌, ◌≤◌, ◌⊎◌, true, if◌then◌else◌, List, [], ◌∷◌, ◌++◌, map}
+use Rattle.vw_insn.specs.Effect.{Transfer, Next, Back, Stop, Unstated, Way, Ordinary, Return, Unlisted, way, reads}
+use Rattle.vw_app.specs.World.{World, IsWithin, heap_range, globals_range}
 use Rattle.vw_app.specs.Module.{Module, Function}
 use Rattle.vw_app.specs.Machine.{Activation, State, Choice, Here, Code, Nowhere, IsOf, function_range, after_insn, accesses, does_trap}
 

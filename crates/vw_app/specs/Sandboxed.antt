@@ -1,12 +1,12 @@
 -- What it means that a module stays in its sandbox: a statement about every run.
-use Rattle.std.specs.Prelude.{◌≡◌, ℕ, ◌+◌, ◌-◌, ◌^◌, ◌<◌, ◌≤◌, Bool, false, List, [], ◌∷◌, Contains}
+use Rattle.std.specs.Prelude.{◌≡◌, ℕ, ◌+◌, ◌^◌, ◌<◌, ◌≤◌, false, List, [], ◌∷◌, Contains}
 use Rattle.std.specs.List.{AllByRecursion}
 use Rattle.vw_bits.specs.Fields.{load}
 use Rattle.vw_insn.specs.Words.{Registers}
 use Rattle.vw_app.specs.World.{World, IsLaidOut}
 use Rattle.vw_app.specs.OneFunction.{IsOneFunction}
 use Rattle.vw_app.specs.Module.{Module, Function, module_of}
-use Rattle.vw_app.specs.Machine.{Activation, State, Choice, Here, StandsAt, Outcome, Went, Returned, Trapped, step}
+use Rattle.vw_app.specs.Machine.{State, Choice, Here, StandsAt, Outcome, Went, Returned, Trapped, step}
 use Rattle.vw_app.specs.Permitted.{events, Permitted}
 
 -- The state in which the host enters a function: rip is its entry, rdi the heap's base, rsp leaves

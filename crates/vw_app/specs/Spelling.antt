@@ -1,12 +1,11 @@
 -- Which bytes spell which instruction (SDM volume 2, chapters 3 to 5), for five forms: NOP, UD2,
 -- RET, and MOV between EAX and memory at RDI with a displacement of four bytes.
-use Rattle.std.specs.Prelude.{◌≡◌, ℕ, ℤ, List, [], ◌∷◌, length, Option, None}
+use Rattle.std.specs.Prelude.{◌≡◌, ℕ, ℤ, List, [], ◌∷◌, length, None}
 use Rattle.std.specs.Int.{cast_signed, w32}
 use Rattle.vw_bits.specs.Fields.{field}
 use Rattle.vw_insn.specs.declared.registers.Reg.TheVariants.{Rax, Rdi}
 use Rattle.vw_insn.specs.declared.registers.Width.TheVariants.{W32}
 use Rattle.vw_insn.specs.declared.operands.Base.TheVariants as base
-use Rattle.vw_insn.specs.declared.operands.Mem.{Mem}
 use Rattle.vw_insn.specs.declared.operands.Place.{Place}
 use Rattle.vw_insn.specs.declared.operands.Place.TheVariants as place
 use Rattle.vw_insn.specs.declared.operands.Source.TheVariants as source

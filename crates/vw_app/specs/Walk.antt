@@ -1,5 +1,5 @@
 -- The walk of a function from its first byte on, and what it finds.
-use Rattle.std.specs.Prelude.{◌≡◌, ℕ, ◌+◌, ◌<◌, ◌≤◌, Bool, true, false, ℤ, pos, ◌<ℤ◌, List, length, take, drop, Option, Some, None, IsSomeAnd}
+use Rattle.std.specs.Prelude.{◌≡◌, ℕ, ◌+◌, ◌<◌, ◌≤◌, Bool, true, false, pos, ◌<ℤ◌, List, length, take, drop, Option, Some, None, IsSomeAnd}
 use Rattle.std.specs.Option.{option_or}
 use Rattle.vw_insn.specs.declared.operands.Mem.{Mem}
 use Rattle.vw_insn.specs.declared.operands.Place.{Place}

@@ -1,5 +1,4 @@
-use Rattle.std.proofs.Common.{◌≡◌, ◌∙◌, ◌+◌, ◌-◌, ◌≤◌, ◌<◌, ℕ, List, length, take, drop, ap, true, false, arith}
-use Rattle.vw_app.specs.OneFunction.{IsOneFunction}
+use Rattle.std.proofs.Common.{◌≡◌, ◌∙◌, ◌+◌, ◌-◌, ◌≤◌, ℕ, length, take, drop, ap, true, false, arith}
 use Rattle.vw_app.proofs.OneFunctions.{known}
 use Rattle.vw_app.proofs.one_function.code_bytes.Goals as goal
 use Rattle.vw_app.proofs.one_function.code_bytes.Goals.{then-end-le-CODE_START-via-then-end-le-CODE_START, then-end-le-CODE_START-via-else-end-le-CODE_START+then-end, then-end-le-CODE_START-via-else-end-le-CODE_START+else-end+then-end-len}

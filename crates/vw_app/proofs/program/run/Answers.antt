@@ -1,7 +1,7 @@
-use Rattle.std.proofs.Common.{ℕ, List, ◌≡◌, true, false, sym, ◌∙◌, map, string_bytes}
+use Rattle.std.proofs.Common.{ℕ, List}
 use Rattle.vw_outside.specs.Shelf.{Rose}
 use Rattle.vw_outside.specs.Sink.{Appended, AppendedFront}
-use Rattle.vw_app.specs.Answer.{Reply, usage, read_fault, AsksToVerify, usage_line, read_fault_line, unbuilt_line}
+use Rattle.vw_app.specs.Answer.{usage, read_fault, usage_line, read_fault_line, unbuilt_line}
 use Rattle.vw_app.proofs.Answers.{replied, cut_short, reply_to, reply_too_long, denied}
 use Rattle.vw_app.proofs.program.run.Goals as goal
 

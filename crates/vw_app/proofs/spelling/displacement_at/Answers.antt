@@ -1,4 +1,4 @@
-use Rattle.std.proofs.Common.{w32, to_z, of_z, ◌≡◌, ◌∙◌, sym, ap, rules, ℤ, ℕ, List, length, take, drop, ◌-◌, arith}
+use Rattle.std.proofs.Common.{w32, to_z, of_z, ◌≡◌, ◌∙◌, sym, ap, rules, ℕ, List, length, take, drop, ◌-◌}
 use mir.Val.{SFits}
 use Rattle.std.specs.Int.{cast_signed}
 use Rattle.byteorder.specs.Endian.{little_number}

@@ -1,4 +1,4 @@
-use Rattle.std.proofs.Common.{arith, rules}
+use Rattle.std.proofs.Common.{rules}
 use Rattle.vw_app.proofs.Spellings.{nop_stands, ret_stands, no_form}
 use Rattle.vw_app.proofs.spelling.form_at.Goals as goal
 

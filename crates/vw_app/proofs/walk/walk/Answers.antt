@@ -1,6 +1,6 @@
 use Rattle.std.proofs.Common.{◌≡◌, ◌∙◌, sym, false, true, length, arith}
 use Rattle.vw_app.specs.Walk.{goes_on}
-use Rattle.vw_app.proofs.Walks.{begins, looked, goes, found_ended, found_unbuilt, found_end}
+use Rattle.vw_app.proofs.Walks.{begins, looked, goes, found_ended, found_end}
 use Rattle.vw_app.proofs.walk.walk.Goals as goal
 
 pub loop-at-init : goal.loop-at-init
