@@ -1,12 +1,12 @@
 -- Facts about the definitions.
 use Rattle.std.proofs.Common.{◌≡◌, ◌⊎◌, inl, inr, ℕ, zero, suc, ◌+◌, ◌-◌, ◌^◌, ◌≤◌, ◌<◌, ◌==◌, Bool, true, false, if◌then◌else◌, List, [], ◌∷◌, length, refl, arith, lit<, lit≤}
-use Rattle.std.specs.Prelude.{nat_le, Contains, AllPairs}
+use Rattle.std.specs.Prelude.{nat_le, nat_lt, ◌&&◌, ◌||◌, Contains, AllPairs}
 use Rattle.std.proofs.lemmas.Bool.Decides.{nat_tests}
 use Rattle.vw_insn.specs.declared.instruction.Insn.{Insn}
-use Rattle.vw_insn.specs.Effect.{Way, Ordinary, Return, Unlisted}
+use Rattle.vw_insn.specs.Effect.{Access, Way, Ordinary, Return, Unlisted}
 use Rattle.vw_app.specs.World.{World, Range, IsLaidOut, AreApart, instance_ranges, globals_range}
 use Rattle.vw_app.specs.Module.{Module, Function, module_of}
-use Rattle.vw_app.specs.Machine.{Activation, State, Code, StandsAt}
+use Rattle.vw_app.specs.Machine.{Activation, State, Choice, Code, StandsAt, does_trap}
 use Rattle.vw_app.specs.Permitted.{Reads, Writes, MayDo, MayRead, MayWrite}
 use Rattle.vw_app.specs.Sandboxed.{IsInitial}
 use Rattle.vw_app.specs.Laws.{IsFramed}
@@ -155,3 +155,19 @@ is_entered size =
 
 pub begun : (code : List ℕ) → length code ≤ 2 ^ 20 → (w : World) × IsLaidOut (module_of code).image 0 w × (f : Function) × Contains (module_of code).functions f × (s : State) × IsInitial w f s
 begun code short = (instance, laid_out code short, record { entry = 120; size = length code }, (0, lit< tt, refl), entered (0x10000000000 + 120), is_entered (length code))
+
+pub in_guard : (code : List ℕ) (w : World) (top : Activation) (imports : ℕ) (image : List Range) → IsLaidOut image imports w → IsFramed w top → MayDo (module_of code) w top Ordinary (Writes (w.stack_low - 8192) 8)
+in_guard code w top imports image laid framed =
+    let room = laid.room_below_stack in
+    let low = framed.low in
+    inr (inr (omega arith, omega arith))
+
+or_true : (a b : Bool) → a ≡ true → a || b ≡ true
+or_true true b h = refl
+or_true false b h = absurd (let e : false ≡ true = h in cc)
+
+touched : (a n low : ℕ) → a < low → low - 8192 < a + n → nat_lt a low && nat_lt (low - 8192) (a + n) ≡ true
+touched a n low one two = grind (arith, nat_tests)
+
+pub trapped : (w : World) (i : Insn) (a n : ℕ) (choice : Choice) (more : List Access) → a < w.stack_low → w.stack_low - 8192 < a + n → does_trap w i (record { at = a; size = n } ∷ more) choice ≡ true
+trapped w i a n choice more one two = or_true _ _ (or_true _ _ (touched a n w.stack_low one two))

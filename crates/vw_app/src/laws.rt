@@ -2,12 +2,12 @@
 //! definitions refuse what they are meant to refuse, that they are met at all, and that they leave no
 //! choice where there is none.
 
-ghost use Rattle.std.specs.Prelude.{◌≡◌, ◌≢◌, ℕ, ◌+◌, ◌-◌, ◌^◌, ◌≤◌, ◌<◌, List, [], ◌∷◌, length, Contains};
+ghost use Rattle.std.specs.Prelude.{◌≡◌, ◌≢◌, ℕ, ◌+◌, ◌-◌, ◌^◌, ◌≤◌, ◌<◌, List, [], ◌∷◌, true, length, Contains};
 ghost use Rattle.vw_insn.specs.declared.instruction.Insn.{Insn};
-ghost use Rattle.vw_insn.specs.Effect.{Way, Return};
-ghost use Rattle.vw_app.specs.World.{World, IsLaidOut};
+ghost use Rattle.vw_insn.specs.Effect.{Access, Way, Ordinary, Return};
+ghost use Rattle.vw_app.specs.World.{Range, World, IsLaidOut};
 ghost use Rattle.vw_app.specs.Module.{Module, Function, module_of};
-ghost use Rattle.vw_app.specs.Machine.{Activation, State, Code, StandsAt};
+ghost use Rattle.vw_app.specs.Machine.{Activation, State, Choice, Code, StandsAt, does_trap};
 ghost use Rattle.vw_app.specs.Permitted.{Reads, Writes, Goes, MayDo};
 ghost use Rattle.vw_app.specs.Sandboxed.{IsInitial};
 ghost use Rattle.vw_app.specs.Answer.{Judged};
@@ -25,6 +25,21 @@ pub fn return_address_stays()
     ensures { (code : List ℕ) (w : World) (top : Activation) (way : Way) (a n : ℕ) → IsLaidOut (module_of code).image 0 w → IsFramed w top
         → 0 < n → a < top.rsp0 + 8 → top.rsp0 < a + n → MayDo (module_of code) w top way (Writes a n) → ⊥ }
 {}
+
+/// A write at the lowest byte of the guard is permitted, since it ends the run: code that probes its stack
+/// need not know how much of it is left.
+pub fn guard_may_be_written()
+    ensures { (code : List ℕ) (w : World) (top : Activation) (imports : ℕ) (image : List Range) → IsLaidOut image imports w → IsFramed w top
+        → MayDo (module_of code) w top Ordinary (Writes (w.stack_low - 8192) 8) }
+{
+}
+
+/// An access that touches a byte of the guard traps, whatever is chosen.
+pub fn guard_traps()
+    ensures { (w : World) (i : Insn) (a n : ℕ) (choice : Choice) (more : List Access)
+        → a < w.stack_low → w.stack_low - 8192 < a + n → does_trap w i (record { at = a; size = n } ∷ more) choice ≡ true }
+{
+}
 
 /// A return goes nowhere but to the return address.
 pub fn returns_go_back()
