@@ -37,4 +37,6 @@ fn words(rt: &HostRuntime) -> std::io::Result<Vec<String>> {
 }
 
 #[cfg(test)]
+mod rule_tests;
+#[cfg(test)]
 mod tests;

@@ -1,3 +1,9 @@
 pub mod Fields
 pub mod Words
 pub mod Numerals
+pub mod Headers
+pub mod Rules
+pub mod HeaderRules
+pub mod Lists
+pub mod Places
+pub mod Symbols

@@ -1,0 +1,5 @@
+pub mod ListLemmas
+pub mod PlaceLemmas
+pub mod OverlapLemmas
+pub mod FaultLemmas
+pub mod BoundLemmas

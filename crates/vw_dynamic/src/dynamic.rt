@@ -1,0 +1,267 @@
+ghost use Rattle.std.specs.Prelude.{◌≡◌, ◌+◌, ◌<◌, ◌≤◌, ◌^◌, length, Some, None, IfOk, IfErr, OnOk};
+ghost use Rattle.vw_bits.specs.Headers.{segments_of, dynamics_of};
+ghost use Rattle.vw_bits.specs.Rules.{lowest_broken, AllHold};
+ghost use Rattle.vw_bits.specs.HeaderRules.{header_fault};
+ghost use Rattle.vw_dynamic.specs.Bounds.{AreBounded};
+ghost use Rattle.vw_dynamic.specs.Faults.{Names};
+ghost use Rattle.vw_dynamic.specs.Entries.{section_entries, second_header};
+ghost use Rattle.vw_dynamic.specs.Directory.{directory_of};
+ghost use Rattle.vw_dynamic.specs.Targets.{kind_of, imports_of, relocations_of};
+ghost use Rattle.vw_dynamic.specs.Dynamic.{section_rules, entry_rules, rela_rules, dynamic_fault, file_imports, file_relocations};
+
+use crate::directory::{
+    Directory, directory_of, first_misfit, first_unplaced, symbols_without_strings,
+};
+use crate::entries::{Entry, first_forbidden, first_repeated, read_entries};
+use crate::faults::refuse;
+use crate::places::file_offset;
+use crate::relas::{
+    R_64, R_NONE, R_RELATIVE, Rela, first_misplaced, first_overlap, first_unknown, read_relas,
+};
+use crate::symbols::{first_unresolved, import_of, strings_of, symbol_of};
+use crate::{DynError, Imports};
+use std::alloc::Global;
+use vw_bits::{DynHeader, List, OutOfMemory, Segment};
+
+/// A relocation of eight bytes (gABI, "Relocation").
+#[derive(Clone, Copy, Debug, PartialEq, Eq)]
+pub struct Relocation {
+    /// The address of the bytes, counted from the load address.
+    pub place: u64,
+    /// What they become.
+    pub kind: RelKind,
+    /// The file offset of the relocation's entry.
+    pub at: u64,
+}
+
+/// What a relocation makes of its eight bytes (x86-64 psABI, "Relocation Types").
+#[derive(Clone, Copy, Debug, PartialEq, Eq)]
+pub enum RelKind {
+    /// The load address and this number, modulo 2^64: RELATIVE, or 64, GLOB_DAT or JUMP_SLOT on a symbol
+    /// that this file defines.
+    Based(u64),
+    /// The address of the import with this number: 64, GLOB_DAT or JUMP_SLOT on an import.
+    Bound(u32),
+}
+
+/// What the dynamic section of a file gives.
+#[derive(Debug, Drop)]
+pub struct Dynamic {
+    /// The relocations of DT_RELA and then those of DT_JMPREL, in order: one for each entry, none for type
+    /// NONE, and each entry once where the tables share it in the file.
+    pub relocations: List<Relocation>,
+    /// The names of the imports that they bind.
+    pub imports: Imports,
+}
+
+impl Dynamic {
+    /// Reads the dynamic section of a file whose headers meet rules 1 to 14; `segments` and `dynamics` are
+    /// those of its program headers, in order. Ok exactly where rules 15 to 26 hold of the bytes. A Fault
+    /// names the first broken one of these rules, and the offset that it names.
+    pub fn read(
+        alloc: Global,
+        bytes: &[u8],
+        segments: &[Segment],
+        dynamics: &[DynHeader],
+    ) -> Result<Dynamic, DynError>
+        requires headers { header_fault bytes.now ≡ None }
+        requires segments { segments.now ≡ segments_of bytes.now }
+        requires dynamics { dynamics.now ≡ dynamics_of bytes.now }
+        ensures ok { OnOk result (dynamic_fault bytes.now ≡ None) }
+        ensures relocations { IfOk result (λ dynamic. dynamic.relocations ≡ file_relocations bytes.now) }
+        ensures imports { IfOk result (λ dynamic. dynamic.imports ≡ file_imports bytes.now) }
+        ensures fault { IfErr result (Names (dynamic_fault bytes.now)) }
+    {
+        if dynamics.is_empty() {
+            return Ok(Dynamic {
+                relocations: List::new(alloc),
+                imports: Imports::new(alloc),
+            });
+        }
+        let entries = read_section(alloc, bytes, segments, &dynamics[0], &dynamics[1..])?;
+        let directory = check_entries(segments, entries.as_slice())?;
+        let relas = read_relas(alloc, bytes, segments, &directory).map_err(DynError::Memory)?;
+        let strings = strings_of(bytes, segments, &directory);
+        let symtab = directory.symtab;
+        check_relas(alloc, bytes, segments, strings, symtab, relas.as_slice())?;
+        let dynamic = bind(alloc, bytes, segments, strings, symtab, relas.as_slice()).map_err(
+            DynError::Memory,
+        )?;
+        Ok(dynamic)
+    }
+}
+
+// Rules 15 to 17: the entries of the one dynamic section. `more` are the headers behind the first.
+fn read_section(
+    alloc: Global,
+    bytes: &[u8],
+    segments: &[Segment],
+    header: &DynHeader,
+    more: &[DynHeader],
+) -> Result<Vec<Entry>, DynError>
+    requires inside { AreBounded (length bytes.now) segments.now }
+    requires small { AreBounded (2 ^ 32) segments.now }
+    ensures ok { IfOk result (λ entries. section_entries bytes.now segments.now header.now ≡ Some entries.items) }
+    ensures rules { OnOk result (AllHold (section_rules bytes.now segments.now header.now more.now)) }
+    ensures fault { IfErr result (Names (lowest_broken 15 (section_rules bytes.now segments.now header.now more.now))) }
+{
+    refuse(15, first_header(more))?;
+    let offset = header.header_at;
+    let start = match file_offset(segments, header.vaddr, header.filesz) {
+        Some(start) => start,
+        None => return Err(DynError::Fault { rule: 16, offset }),
+    };
+    match read_entries(alloc, bytes, start, header.filesz).map_err(DynError::Memory)? {
+        Some(entries) => Ok(entries),
+        None => Err(DynError::Fault { rule: 17, offset }),
+    }
+}
+
+fn first_header(headers: &[DynHeader]) -> Option<u64>
+    ensures { result ≡ second_header headers.now }
+{
+    match headers.first() {
+        Some(header) => Some(header.header_at),
+        None => None,
+    }
+}
+
+// Rules 18 to 22: what the entries name.
+fn check_entries(segments: &[Segment], entries: &[Entry]) -> Result<Directory, DynError>
+    requires { AreBounded (2 ^ 32) segments.now }
+    ensures ok { IfOk result (λ directory. directory ≡ directory_of entries.now) }
+    ensures rules { OnOk result (AllHold (entry_rules segments.now entries.now)) }
+    ensures fault { IfErr result (Names (lowest_broken 18 (entry_rules segments.now entries.now))) }
+{
+    refuse(18, first_forbidden(entries))?;
+    refuse(19, first_repeated(entries))?;
+    let directory = directory_of(entries);
+    refuse(20, first_misfit(&directory, entries))?;
+    refuse(21, symbols_without_strings(segments, &directory, entries))?;
+    refuse(22, first_unplaced(segments, &directory, entries))?;
+    Ok(directory)
+}
+
+// Rules 23 to 26: each relocation by itself, and no two of one byte.
+fn check_relas(
+    alloc: Global,
+    bytes: &[u8],
+    segments: &[Segment],
+    strings: &[u8],
+    symtab: Option<u64>,
+    relas: &[Rela],
+) -> Result<(), DynError>
+    requires inside { AreBounded (length bytes.now) segments.now }
+    requires small { AreBounded (2 ^ 32) segments.now }
+    ensures ok { OnOk result (AllHold (rela_rules bytes.now segments.now strings.now symtab relas.now)) }
+    ensures fault { IfErr result (Names (lowest_broken 23 (rela_rules bytes.now segments.now strings.now symtab relas.now))) }
+{
+    refuse(23, first_unknown(relas))?;
+    refuse(24, first_misplaced(segments, relas))?;
+    refuse(25, first_overlap(alloc, relas).map_err(DynError::Memory)?)?;
+    refuse(
+        26,
+        first_unresolved(bytes, segments, strings, symtab, relas),
+    )
+}
+
+// The relocations with what they resolve to.
+fn bind(
+    alloc: Global,
+    bytes: &[u8],
+    segments: &[Segment],
+    strings: &[u8],
+    symtab: Option<u64>,
+    relas: &[Rela],
+) -> Result<Dynamic, OutOfMemory>
+    requires inside { AreBounded (length bytes.now) segments.now }
+    requires small { AreBounded (2 ^ 32) segments.now }
+    requires few { length relas.now + 1 < 2 ^ 32 }
+    ensures imports { IfOk result (λ dynamic. dynamic.imports ≡ imports_of bytes.now segments.now strings.now symtab relas.now) }
+    ensures relocations { IfOk result (λ dynamic. dynamic.relocations
+        ≡ relocations_of bytes.now segments.now strings.now symtab (imports_of bytes.now segments.now strings.now symtab relas.now) relas.now) }
+{
+    let imports = collect_imports(alloc, bytes, segments, strings, symtab, relas)?;
+    let relocations = resolve(alloc, bytes, segments, strings, symtab, &imports, relas)?;
+    Ok(Dynamic {
+        relocations,
+        imports,
+    })
+}
+
+// What each relocation resolves to, in order, and none for type NONE.
+fn resolve(
+    alloc: Global,
+    bytes: &[u8],
+    segments: &[Segment],
+    strings: &[u8],
+    symtab: Option<u64>,
+    imports: &Imports,
+    relas: &[Rela],
+) -> Result<List<Relocation>, OutOfMemory>
+    requires inside { AreBounded (length bytes.now) segments.now }
+    requires small { AreBounded (2 ^ 32) segments.now }
+    ensures { IfOk result (λ relocations. relocations
+        ≡ relocations_of bytes.now segments.now strings.now symtab imports.now relas.now) }
+{
+    let mut relocations = List::new(alloc);
+    for rela in relas {
+        if rela.kind != R_NONE {
+            let kind = kind_of(bytes, segments, strings, symtab, imports, rela);
+            relocations.push(Relocation {
+                place: rela.place,
+                kind,
+                at: rela.at,
+            })?;
+        }
+    }
+    Ok(relocations)
+}
+
+// The names of the imports, numbered by the first relocations on them.
+fn collect_imports(
+    alloc: Global,
+    bytes: &[u8],
+    segments: &[Segment],
+    strings: &[u8],
+    symtab: Option<u64>,
+    relas: &[Rela],
+) -> Result<Imports, OutOfMemory>
+    requires inside { AreBounded (length bytes.now) segments.now }
+    requires small { AreBounded (2 ^ 32) segments.now }
+    requires few { length relas.now + 1 < 2 ^ 32 }
+    ensures { IfOk result (λ imports. imports ≡ imports_of bytes.now segments.now strings.now symtab relas.now) }
+{
+    let mut imports = Imports::new(alloc);
+    for rela in relas {
+        if let Some(name) = import_of(bytes, segments, strings, symtab, rela) {
+            imports.add(alloc, name)?;
+        }
+    }
+    Ok(imports)
+}
+
+fn kind_of(
+    bytes: &[u8],
+    segments: &[Segment],
+    strings: &[u8],
+    symtab: Option<u64>,
+    imports: &Imports,
+    rela: &Rela,
+) -> RelKind
+    requires inside { AreBounded (length bytes.now) segments.now }
+    requires small { AreBounded (2 ^ 32) segments.now }
+    ensures { result ≡ kind_of bytes.now segments.now strings.now symtab imports.now rela.now }
+{
+    if rela.kind == R_RELATIVE {
+        return RelKind::Based(rela.addend);
+    }
+    if let Some(name) = import_of(bytes, segments, strings, symtab, rela) {
+        return RelKind::Bound(imports.number_of(name).unwrap_or(0));
+    }
+    match symbol_of(bytes, segments, symtab, rela.symbol) {
+        Some(symbol) if rela.kind == R_64 => RelKind::Based(symbol.value.wrapping_add(rela.addend)),
+        Some(symbol) => RelKind::Based(symbol.value),
+        None => RelKind::Based(0),
+    }
+}

@@ -1,0 +1,211 @@
+ghost use Rattle.std.specs.Prelude.{◌≡◌, ◌+◌, ◌≤◌, ◌^◌, length, take, drop, option_copied, IfOk};
+ghost use Rattle.std.specs.List.{find};
+ghost use Rattle.vw_bits.specs.Symbols.{symbol_at, is_defined, is_import};
+ghost use Rattle.vw_dynamic.specs.Bounds.{AreBounded};
+ghost use Rattle.vw_dynamic.specs.Relas.{rela_offset};
+ghost use Rattle.vw_dynamic.specs.Targets.{strings_of, symbol_offset, symbol_of, name_of, name_at, is_symbolic, resolves_to, is_unresolved, import_of};
+
+use crate::directory::{Directory, table_offset};
+use crate::fields::{u8_at, u16_at, u32_at, u64_at};
+use crate::places::file_offset;
+use crate::relas::{R_64, R_GLOB_DAT, R_JUMP_SLOT, Rela};
+use vw_bits::{Segment, Symbol};
+
+const SYMBOL_SIZE: u64 = 24;
+
+const STT_GNU_IFUNC: u8 = 10;
+
+const SHN_UNDEF: u16 = 0;
+
+/// The last section index below SHN_LORESERVE.
+const SHN_LAST: u16 = 65_279;
+
+/// The greatest length of a name, in bytes.
+const MAX_NAME: usize = 1024;
+
+// The bytes of the string table, or none where it is not in the file.
+pub(crate) fn strings_of<'a>(
+    bytes: &'a [u8],
+    segments: &[Segment],
+    directory: &Directory,
+) -> &'a [u8]
+    requires inside { AreBounded (length bytes.now) segments.now }
+    requires small { AreBounded (2 ^ 32) segments.now }
+    ensures { result.now ≡ strings_of bytes.now segments.now directory.now }
+{
+    match table_offset(segments, directory.strtab, directory.strsz) {
+        None => &[],
+        Some(offset) => part(bytes, offset, directory.strsz.unwrap_or(0)),
+    }
+}
+
+fn part(bytes: &[u8], offset: u64, size: u64) -> &[u8]
+    requires { offset + size ≤ length bytes.now }
+    ensures { result.now ≡ take size (drop offset bytes.now) }
+{
+    &bytes[offset as usize..(offset + size) as usize]
+}
+
+// The symbol with an index other than 0, where its entry is in the file part.
+pub(crate) fn symbol_of(
+    bytes: &[u8],
+    segments: &[Segment],
+    symtab: Option<u64>,
+    index: u32,
+) -> Option<Symbol>
+    requires inside { AreBounded (length bytes.now) segments.now }
+    requires small { AreBounded (2 ^ 32) segments.now }
+    ensures { result ≡ symbol_of bytes.now segments.now symtab index }
+{
+    if index == 0 {
+        return None;
+    }
+    let at = symbol_offset(segments, symtab, index)?;
+    Some(symbol_at(bytes, at))
+}
+
+// The file offset of the symbol with an index. An address past the last word is in no segment.
+fn symbol_offset(segments: &[Segment], symtab: Option<u64>, index: u32) -> Option<u64>
+    requires { AreBounded (2 ^ 32) segments.now }
+    ensures { result ≡ symbol_offset segments.now symtab index }
+{
+    match symtab {
+        None => None,
+        Some(first) => match first.checked_add(SYMBOL_SIZE * index as u64) {
+            None => None,
+            Some(address) => file_offset(segments, address, SYMBOL_SIZE),
+        },
+    }
+}
+
+#[tactic(auto, unfolding(vw_bits::specs::Symbols::symbol_at))]
+fn symbol_at(bytes: &[u8], at: u64) -> Symbol
+    requires { at + 24 ≤ length bytes.now }
+    ensures { result ≡ symbol_at bytes.now at }
+{
+    Symbol {
+        name: u32_at(bytes, at),
+        info: u8_at(bytes, at + 4),
+        shndx: u16_at(bytes, at + 6),
+        value: u64_at(bytes, at + 8),
+        size: u64_at(bytes, at + 16),
+        at,
+    }
+}
+
+pub(crate) fn is_import(symbol: &Symbol) -> bool
+    ensures { result ≡ is_import symbol.now }
+{
+    symbol.shndx == SHN_UNDEF
+}
+
+fn is_defined(symbol: &Symbol) -> bool
+    ensures { result ≡ is_defined symbol.now }
+{
+    1 <= symbol.shndx && symbol.shndx <= SHN_LAST
+}
+
+// The name of 1 to 1,024 bytes at an offset of the string table, if it ends there.
+pub(crate) fn name_at(strings: &[u8], at: u32) -> Option<&[u8]>
+    ensures { option_copied result ≡ name_at strings.now at }
+{
+    if at as usize > strings.len() {
+        return None;
+    }
+    name_of(&strings[at as usize..])
+}
+
+// The name that bytes begin with: those before the first zero byte.
+fn name_of(rest: &[u8]) -> Option<&[u8]>
+    ensures { option_copied result ≡ name_of rest.now }
+{
+    for index in 0..rest.len().min(MAX_NAME + 1) {
+        if rest[index] == 0 {
+            return if index == 0 {
+                None
+            } else {
+                Some(&rest[..index])
+            };
+        }
+    }
+    None
+}
+
+pub(crate) fn is_symbolic(rela: &Rela) -> bool
+    ensures { result ≡ is_symbolic rela.now }
+{
+    matches!(rela.kind, R_64 | R_GLOB_DAT | R_JUMP_SLOT)
+}
+
+// Rule 26: the first relocation by a symbol that does not resolve.
+pub(crate) fn first_unresolved(
+    bytes: &[u8],
+    segments: &[Segment],
+    strings: &[u8],
+    symtab: Option<u64>,
+    relas: &[Rela],
+) -> Option<u64>
+    requires inside { AreBounded (length bytes.now) segments.now }
+    requires small { AreBounded (2 ^ 32) segments.now }
+    ensures { result ≡ rela_offset (find (is_unresolved bytes.now segments.now strings.now symtab) relas.now) }
+{
+    relas
+        .iter()
+        .find(|r| is_unresolved(bytes, segments, strings, symtab, r))
+        .map(|r| r.at)
+}
+
+fn is_unresolved(
+    bytes: &[u8],
+    segments: &[Segment],
+    strings: &[u8],
+    symtab: Option<u64>,
+    rela: &Rela,
+) -> bool
+    requires inside { AreBounded (length bytes.now) segments.now }
+    requires small { AreBounded (2 ^ 32) segments.now }
+    ensures { result ≡ is_unresolved bytes.now segments.now strings.now symtab rela.now }
+{
+    if !is_symbolic(rela) {
+        return false;
+    }
+    match symbol_of(bytes, segments, symtab, rela.symbol) {
+        Some(symbol) => !resolves_to(strings, rela, &symbol),
+        None => true,
+    }
+}
+
+#[tactic(auto, unfolding(crate::specs::Targets::resolves_to))]
+fn resolves_to(strings: &[u8], rela: &Rela, symbol: &Symbol) -> bool
+    ensures { result ≡ resolves_to strings.now rela.now symbol.now }
+{
+    if symbol.info % 16 == STT_GNU_IFUNC {
+        return false;
+    }
+    if !is_import(symbol) {
+        return is_defined(symbol);
+    }
+    (rela.kind != R_64 || rela.addend == 0) && name_at(strings, symbol.name).is_some()
+}
+
+// The name of the import that a relocation is on.
+#[tactic(auto, unfolding(crate::specs::Targets::import_of))]
+pub(crate) fn import_of<'a>(
+    bytes: &[u8],
+    segments: &[Segment],
+    strings: &'a [u8],
+    symtab: Option<u64>,
+    rela: &Rela,
+) -> Option<&'a [u8]>
+    requires inside { AreBounded (length bytes.now) segments.now }
+    requires small { AreBounded (2 ^ 32) segments.now }
+    ensures { option_copied result ≡ import_of bytes.now segments.now strings.now symtab rela.now }
+{
+    if !is_symbolic(rela) {
+        return None;
+    }
+    match symbol_of(bytes, segments, symtab, rela.symbol) {
+        Some(symbol) if is_import(&symbol) => name_at(strings, symbol.name),
+        _ => None,
+    }
+}
