@@ -1,0 +1,6 @@
+//! The least solution of equations over a lattice, by a work list.
+#![tactic(auto)]
+
+mod steps;
+
+pub use steps::Steps;
