@@ -31,15 +31,13 @@ pub fn return_address_stays()
 pub fn guard_may_be_written()
     ensures { (code : List ℕ) (w : World) (top : Activation) (imports : ℕ) (image : List Range) → IsLaidOut image imports w → IsFramed w top
         → MayDo (module_of code) w top Ordinary (Writes (w.stack_low - 8192) 8) }
-{
-}
+{}
 
 /// An access that touches a byte of the guard traps, whatever is chosen.
 pub fn guard_traps()
     ensures { (w : World) (i : Insn) (a n : ℕ) (choice : Choice) (more : List Access)
         → a < w.stack_low → w.stack_low - 8192 < a + n → does_trap w i (record { at = a; size = n } ∷ more) choice ≡ true }
-{
-}
+{}
 
 /// A return goes nowhere but to the return address.
 pub fn returns_go_back()
