@@ -1,0 +1,3 @@
+pub mod Landings
+pub mod Search
+pub mod Waiting
