@@ -9,7 +9,9 @@ use vw_bits::OutOfMemory;
 #[derive(Clone, Copy, Debug, PartialEq, Eq, Error)]
 pub enum ElfError {
     /// A rule of 1 to 14 does not hold of the file. `rule` is the lowest that does not, and `offset` the
-    /// file offset that it names: that of the first header, field or byte that breaks it.
+    /// file offset that it names: that of the first header, field or byte that breaks it. Of the rules on
+    /// the file's length, rule 1 names the greatest length, 67,108,864, and rule 2 the file's own length,
+    /// below 64.
     #[error("rule {rule} is broken at offset {offset}")]
     Fault { rule: u8, offset: u64 },
     /// The allocator refused a request.
