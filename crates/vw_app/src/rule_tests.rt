@@ -268,35 +268,41 @@ fn names_the_first_broken_rule(rt: HostRuntime) {
     assert_eq!(rt; cases, 63);
 }
 
+/// A relocation to what is added to the base address.
+fn based(place: u64, added: u64, at: u64) -> Relocation {
+    Relocation {
+        place,
+        kind: RelKind::Based(added),
+        at,
+    }
+}
+
+/// A relocation to an import.
+fn bound(place: u64, import: u32, at: u64) -> Relocation {
+    Relocation {
+        place,
+        kind: RelKind::Bound(import),
+        at,
+    }
+}
+
 #[test]
 fn reads_the_dynamic_section(rt: HostRuntime) -> Result<(), Fail> {
     let dynamic = section(rt.alloc(), "")?;
-    let based = Relocation {
-        place: 0x2100,
-        kind: RelKind::Based(0x123),
-        at: 768,
-    };
-    let defined = Relocation {
-        place: 0x2108,
-        kind: RelKind::Based(0x42),
-        at: 792,
-    };
-    let bound = Relocation {
-        place: 0x2110,
-        kind: RelKind::Bound(0),
-        at: 816,
-    };
-    let again = Relocation {
-        place: 0x2118,
-        kind: RelKind::Bound(0),
-        at: 864,
-    };
-    assert_eq!(rt;
-        dynamic.relocations.as_slice(),
-        [based, defined, bound, again].as_slice()
-    );
+    let relocations = [
+        based(0x2100, 0x123, 768),
+        based(0x2108, 0x42, 792),
+        bound(0x2110, 0, 816),
+        bound(0x2118, 0, 864),
+    ];
+    assert_eq!(rt; dynamic.relocations.as_slice(), relocations.as_slice());
     assert_eq!(rt; dynamic.imports.len(), 1);
     assert_eq!(rt; dynamic.imports.name(0), b"a".as_slice());
+    Ok(())
+}
+
+#[test]
+fn numbers_imports_by_their_first_relocation(rt: HostRuntime) -> Result<(), Fail> {
     let dynamic = section(rt.alloc(), "1352 4 5")?;
     assert_eq!(rt; dynamic.imports.len(), 2);
     assert_eq!(rt; dynamic.imports.name(1), b"b".as_slice());
