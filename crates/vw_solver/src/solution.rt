@@ -78,8 +78,10 @@ fn settle<E: Equations, L: Ledger>(
 }
 
 /// The least solution of the equations in which `start` has at least the state `first`. The steps that it
-/// counts are those of its evaluations, at most the sum of the weights of the points reached, times one
-/// more than the greatest rank of a state put at a point. After `OutOfMemory` only the steps have changed.
+/// counts are those of its evaluations: at most the sum of the weights of the points reached, times one
+/// more than the greatest rank of a state that can be put at a point, which is the first at the start, one
+/// that an edge of such a state carries, or the join of two of one point. After `OutOfMemory` only the steps
+/// have changed, by at most the same product over all points.
 pub fn solve<E: Equations, L: Ledger>(
     alloc: Global,
     equations: &E,
