@@ -83,7 +83,7 @@ impl<V: Drop> MapOf<V> {
         Ok(())
     }
 
-    /// Takes out a key and its value, where the map has the key.
+    /// Takes out a key and its value, where the map has the key. Takes no memory.
     pub fn cut(&mut self, key: i64)
         ensures here { value_at self.new key ≡ None }
         ensures others { (other : ℤ) → other ≢ key → value_at self.new other ≡ value_at self.old other }

@@ -4,13 +4,13 @@ use Rattle.std.specs.Prelude.{◌||◌}
 use Rattle.std.specs.List.{All, Contains}
 use Rattle.std.specs.Ordering.{nat_cmp}
 use Rattle.std.specs.BTreeSet.{insert_key}
-use Rattle.std.proofs.Math.Nat.{mul-le-mul_left}
+use Rattle.std.proofs.Math.Nat.{mul-le-mul_left, mul-le-mul_right}
 use Rattle.std.proofs.lemmas.Bool.{cases_lt, cases_eq}
 use Rattle.std.proofs.lemmas.List.{get_or_append_left, get_or_push, length_push, get_or-set_same, get_or-set_other, get_or_past, length-set, append_assoc, append-nil, get_or-replicate, length-replicate}
 use Rattle.std.proofs.lemmas.List.Elements.{All-contains, All-contains_itself, All-weaker}
-use Rattle.vw_solver.specs.Solution.{state_at, IsCovered, IsSolution, IsLower, IsLeast, IsReached, HoldsReachedPoints, IsPut, begin, follow, raise, RanksAtMost, weight_from, weight_of}
+use Rattle.vw_solver.specs.Solution.{state_at, IsCovered, IsSolution, IsLower, IsLeast, IsReached, HoldsReachedPoints, IsPut, begin, follow, raise, RanksAtMost, weight_from, weight_of, weights_from}
 use Rattle.vw_solver.specs.Landing.{AllValid, AllHaveStates, Lands, kept, raised, reached, LandsAll, none, more, Visits, stay, visit}
-use Rattle.vw_solver.specs.Visited.{Visited}
+use Rattle.vw_solver.specs.Visited.{Visited, VisitsFailed}
 use Rattle.vw_solver.specs.Tables.{table_sum, held_rank, is_empty, ranks, empties}
 use Rattle.vw_solver.proofs.Waiting.{Waits, total, total_insert, length_insert, waits_insert, waits_still, waits_from, all_from_waits, waits_from_all}
 
@@ -76,6 +76,12 @@ cost_at_most weight rank r p (None ∷ rest) = omega (arith, cost_at_most weight
 cost_at_most weight rank r p (Some s ∷ rest) =
     let less : r + 1 - rank s ≤ r + 1 = omega arith in
     omega (arith, mul-le-mul_left (weight p) less, cost_at_most weight rank r (suc p) rest)
+
+-- the points that have a state are some of all points
+weight_within : {S : Type 0} (weight : ℕ → ℕ) (p : ℕ) (table : List (Option S)) → weight_from weight p table ≤ weights_from weight p (length table)
+weight_within weight p [] = omega arith
+weight_within weight p (None ∷ rest) = omega (arith, weight_within weight (suc p) rest)
+weight_within weight p (Some s ∷ rest) = omega (arith, weight_within weight (suc p) rest)
 
 -- ---- the laws
 
@@ -477,6 +483,18 @@ module _ {S : Type 0} (below : S → S → Type 0) (is_valid : S → Type 0) (ra
 
   pub finish_ticks : (table : List (Option S)) (ticks : ℕ) → Progress below is_valid rank edges weight points start first table [] [] ticks → (r : ℕ) → RanksAtMost below is_valid edges start first rank r → ticks ≤ weight_of weight table * (r + 1)
   finish_ticks table ticks run r most = omega (arith, run.paid r most, cost_at_most weight rank r 0 table)
+
+  -- the steps so far, and those of the points that wait, are within the weights of all points
+  pub within_bound : (table : List (Option S)) (waiting : List ℕ) (ticks : ℕ) → Progress below is_valid rank edges weight points start first table waiting [] ticks → (r : ℕ) → RanksAtMost below is_valid edges start first rank r → ticks + total weight waiting ≤ weights_from weight 0 points * (r + 1)
+  within_bound table waiting ticks run r most =
+      let B : ℕ → Type 0 = λ n. weight_from weight 0 table ≤ weights_from weight 0 n in
+      let all = subst B run.size (weight_within weight 0 table) in
+      omega (arith, run.paid r most, cost_at_most weight rank r 0 table, mul-le-mul_right (r + 1) all)
+
+  pub failed_bound : (table : List (Option S)) (waiting : List ℕ) (ticks extra : ℕ) → Progress below is_valid rank edges weight points start first table waiting [] ticks → VisitsFailed below is_valid edges weight points table waiting extra → (r : ℕ) → RanksAtMost below is_valid edges start first rank r → ticks + extra ≤ weights_from weight 0 points * (r + 1)
+  failed_bound table waiting ticks extra run failed r most =
+      let before = visits_step table waiting ticks failed.ticks failed.middle (failed.point ∷ failed.rest) run failed.visits in
+      omega (arith, within_bound failed.middle (failed.point ∷ failed.rest) (ticks + failed.ticks) before r most, failed.counted)
 
 -- ---- what each landing keeps, for the code
 

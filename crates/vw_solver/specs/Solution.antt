@@ -1,6 +1,6 @@
 -- Solutions of equations over a lattice, given by the edges that leave each point with a state, and the
 -- least of them (Nielson, Nielson and Hankin, Principles of Program Analysis, chapter 2).
-use Rattle.std.specs.Prelude.{◌≡◌, ◌≢◌, ℕ, suc, ◌+◌, ◌≤◌, List, [], ◌∷◌, length, Option, Some, None, slice_index_or, ◌⊎◌}
+use Rattle.std.specs.Prelude.{◌≡◌, ◌≢◌, ℕ, zero, suc, ◌+◌, ◌≤◌, List, [], ◌∷◌, length, Option, Some, None, slice_index_or, ◌⊎◌}
 use Rattle.std.specs.List.{All, Contains}
 use Rattle.vw_lattice.specs.Order.{IsJoin}
 
@@ -64,3 +64,8 @@ weight_from weight point (Some _ ∷ rest) = weight point + weight_from weight (
 -- the sum of the weights of the points that have a state
 abbrev pub weight_of : {S : Type 0} → (ℕ → ℕ) → List (Option S) → ℕ
 weight_of weight table = weight_from weight 0 table
+
+-- the sum of the weights of so many points from `point` on
+abbrev pub weights_from : (ℕ → ℕ) → ℕ → ℕ → ℕ
+weights_from weight point zero = 0
+weights_from weight point (suc count) = weight point + weights_from weight (suc point) count

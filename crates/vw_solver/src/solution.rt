@@ -1,8 +1,8 @@
-ghost use Rattle.std.specs.Prelude.{◌≡◌, ℕ, ◌+◌, ◌-◌, ◌*◌, ◌<◌, ◌≤◌, [], length, replicate, true, false, Some, None, IfOk, OnOk};
+ghost use Rattle.std.specs.Prelude.{◌≡◌, ℕ, ◌+◌, ◌-◌, ◌*◌, ◌<◌, ◌≤◌, [], length, replicate, true, false, Some, None, IfOk, OnOk, OnErr};
 ghost use Rattle.std.specs.List.{All};
-ghost use Rattle.vw_solver.specs.Solution.{state_at, IsLeast, HoldsReachedPoints, RanksAtMost, weight_of};
+ghost use Rattle.vw_solver.specs.Solution.{state_at, IsLeast, HoldsReachedPoints, RanksAtMost, weight_of, weights_from};
 ghost use Rattle.vw_solver.specs.Landing.{AllValid, AllHaveStates, Visits};
-ghost use Rattle.vw_solver.specs.Visited.{Visited, VisitsCounted};
+ghost use Rattle.vw_solver.specs.Visited.{Visited, VisitsCounted, VisitsFailed};
 ghost use Rattle.vw_solver.specs.Tables.{empties};
 
 use crate::lands::land_all;
@@ -63,6 +63,7 @@ fn settle<E: Equations, L: Ledger>(
     requires valid { AllValid (E.State.valid (E.bounds equations.now)) states.old.items }
     requires waiting { AllHaveStates states.old.items waiting.old.keys }
     ensures visits { OnOk result (VisitsCounted E.State.below (E.State.valid (E.bounds equations.now)) (E.edges equations.now) (E.weight equations.now) (E.points equations.now) states.old.items waiting.old.keys states.new.items waiting.new.keys (steps.new - steps.old)) }
+    ensures failed { OnErr result (VisitsFailed E.State.below (E.State.valid (E.bounds equations.now)) (E.edges equations.now) (E.weight equations.now) (E.points equations.now) states.old.items waiting.old.keys (steps.new - steps.old)) }
     ensures fewer { IfOk result (λ met. met ≡ true → empties states.new.items < empties states.old.items) }
     ensures settled { IfOk result (λ met. met ≡ false → waiting.new.keys ≡ []) }
     ensures counts { steps.old ≤ steps.new }
@@ -77,8 +78,10 @@ fn settle<E: Equations, L: Ledger>(
 }
 
 /// The least solution of the equations in which `start` has at least the state `first`. The steps that it
-/// counts are those of its evaluations, at most the sum of the weights of the points reached, times one
-/// more than the greatest rank of a state put at a point. After `OutOfMemory` only the steps have changed.
+/// counts are those of its evaluations: at most the sum of the weights of the points reached, times one
+/// more than the greatest rank of a state that can be put at a point, which is the first at the start, one
+/// that an edge of such a state carries, or the join of two of one point. After `OutOfMemory` only the steps
+/// have changed, by at most the same product over all points.
 pub fn solve<E: Equations, L: Ledger>(
     alloc: Global,
     equations: &E,
@@ -93,6 +96,9 @@ pub fn solve<E: Equations, L: Ledger>(
     ensures ticks { IfOk result (λ table. (most : ℕ)
         → RanksAtMost E.State.below (E.State.valid (E.bounds equations.now)) (E.edges equations.now) start first (E.State.rank (E.bounds equations.now)) most
         → steps.new ≤ steps.old + weight_of (E.weight equations.now) table * (most + 1)) }
+    ensures bound { (most : ℕ)
+        → RanksAtMost E.State.below (E.State.valid (E.bounds equations.now)) (E.edges equations.now) start first (E.State.rank (E.bounds equations.now)) most
+        → steps.new ≤ steps.old + weights_from (E.weight equations.now) 0 (E.points equations.now) * (most + 1) }
     ensures counts { steps.old ≤ steps.new }
 {
     let mut states = no_states(alloc, equations.points())?;

@@ -2,7 +2,7 @@ use Rattle.std.proofs.Common.{◌≡◌, ◌+◌, ◌-◌, ◌*◌, ◌≤◌, �
 use Rattle.std.specs.Ordering.{nat_cmp}
 use Rattle.std.specs.BTreeSet.{insert_key}
 use Rattle.vw_solver.specs.Solution.{IsLeast, HoldsReachedPoints, weight_of}
-use Rattle.vw_solver.proofs.Search.{Laws, Progress, first_progress, visits_step, finish, finish_reached, finish_ticks, all_wait}
+use Rattle.vw_solver.proofs.Search.{Laws, Progress, first_progress, visits_step, finish, finish_reached, finish_ticks, within_bound, failed_bound, all_wait}
 use Rattle.vw_solver.proofs.solution.solve.Given.{Over}
 use Rattle.vw_solver.proofs.solution.solve.Goals as goal
 
@@ -75,3 +75,14 @@ returns-clause-ticks g c = λ most at_most.
     let total : ℕ → Type 0 = λ n. (c.rounds.steps - c.args.steps.now) + (c.settle.new.steps - c.rounds.steps) ≤ n * (most + 1) in
     let bound = subst total same paid in
     omega (arith, bound, c.rounds.invariant.counts, c.in_ok-met.ensures.counts)
+
+pub returns-clause-bound : goal.returns-clause-bound
+returns-clause-bound g c = λ most at_most.
+    let run = visits_step g.E.State.Lattice.below (g.E.State.Lattice.valid (g.E.Equations.bounds c.args.equations.now)) (g.E.State.Lattice.rank (g.E.Equations.bounds c.args.equations.now)) (g.E.Equations.edges c.args.equations.now) (g.E.Equations.weight c.args.equations.now) (g.E.Equations.points c.args.equations.now) c.args.start c.args.first (laws_of g c.args.equations.now) c.rounds.states.items c.rounds.waiting.keys (c.rounds.steps - c.args.steps.now) (c.settle.new.steps - c.rounds.steps) c.settle.new.states.items c.settle.new.waiting.keys c.rounds.invariant.run c.in_ok-met.ensures.visits in
+    let bound = within_bound g.E.State.Lattice.below (g.E.State.Lattice.valid (g.E.Equations.bounds c.args.equations.now)) (g.E.State.Lattice.rank (g.E.Equations.bounds c.args.equations.now)) (g.E.Equations.edges c.args.equations.now) (g.E.Equations.weight c.args.equations.now) (g.E.Equations.points c.args.equations.now) c.args.start c.args.first (laws_of g c.args.equations.now) c.settle.new.states.items c.settle.new.waiting.keys ((c.rounds.steps - c.args.steps.now) + (c.settle.new.steps - c.rounds.steps)) run most at_most in
+    omega (arith, bound, c.rounds.invariant.counts, c.in_ok-met.ensures.counts)
+
+pub returns-in_err-met-clause-bound : goal.returns-in_err-met-clause-bound
+returns-in_err-met-clause-bound g c = λ most at_most.
+    let bound = failed_bound g.E.State.Lattice.below (g.E.State.Lattice.valid (g.E.Equations.bounds c.args.equations.now)) (g.E.State.Lattice.rank (g.E.Equations.bounds c.args.equations.now)) (g.E.Equations.edges c.args.equations.now) (g.E.Equations.weight c.args.equations.now) (g.E.Equations.points c.args.equations.now) c.args.start c.args.first (laws_of g c.args.equations.now) c.rounds.states.items c.rounds.waiting.keys (c.rounds.steps - c.args.steps.now) (c.settle.new.steps - c.rounds.steps) c.rounds.invariant.run c.in_err-met.ensures.failed most at_most in
+    omega (arith, bound, c.rounds.invariant.counts, c.in_err-met.ensures.counts)
