@@ -1,14 +1,13 @@
 -- What the join of two maps, entry by entry, is among all maps.
-use Rattle.std.proofs.Common.{◌≡◌, ◌≢◌, ℕ, ◌+◌, ◌<◌, ◌≤◌, Bool, true, false, List, [], ◌∷◌, ◌++◌, length, get_or, take, drop, Option, Some, None, refl, sym, ap, subst, ◌∙◌, arith, inl, inr, ◌⊎◌}
+use Rattle.std.proofs.Common.{◌≡◌, ℕ, ◌<◌, ◌≤◌, Bool, true, false, List, [], ◌∷◌, ◌++◌, length, get_or, take, drop, Option, Some, None, refl, sym, ap, subst, ◌∙◌, arith, inl, inr, ◌⊎◌}
 use Rattle.std.specs.Prelude.{ℤ, ◌<ℤ◌, ◌||◌, Result, Ok, Err, IfOk, OnOk, OnErr}
-use Rattle.std.specs.List.{All, AllPairs}
+use Rattle.std.specs.List.{All}
 use Rattle.std.proofs.lemmas.List.{get_or_append_left, get_or_push, length_push, length-take, get_or-take, same_from_push, take-append-drop}
 use Rattle.std.proofs.lemmas.List.Elements.{All-push}
 use Rattle.std.proofs.lemmas.List.Quantifiers.{all_pairs_push}
-use lib.Signed.{<ℤ_irrefl}
 use Rattle.vw_lattice.specs.Order.{IsJoin, TellsChange}
-use Rattle.vw_lattice.specs.Entries.{IsAscending, value_at, map_below, IsBelowAt, IsValidMap}
-use Rattle.vw_lattice.specs.EntryOrder.{value_at_here, value_at_there, same_or_not, value_at_absent, apart_from_lt, value_at_append_found, value_at_append_absent, index_of}
+use Rattle.vw_lattice.specs.Entries.{IsAscending, value_at, map_below, IsValidMap}
+use Rattle.vw_lattice.specs.EntryOrder.{value_at_here, value_at_there, same_or_not, value_at_absent, apart_from_lt, value_at_append_found, value_at_append_absent}
 use Rattle.vw_lattice.specs.Joined.{Joined, JoinsValue, JoinedFront, none, keep, omit}
 
 found_or_not : {V : Type 0} (o : Option V) → ((v : V) × (o ≡ Some v)) ⊎ (o ≡ None)
