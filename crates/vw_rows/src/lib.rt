@@ -5,11 +5,13 @@
 mod forms;
 mod lookup;
 mod patterns;
+mod shape;
 mod tables;
 
 pub use forms::{Immediate, Kind, Operands, Row, Sizing};
 pub use lookup::{one_row_per_key, row_of};
 pub use patterns::{Form, Key, Map, Pattern, Prefix, Prefixes};
+pub use shape::Shape;
 
 #[cfg(test)]
 mod tests;
