@@ -6,3 +6,4 @@ pub mod Layout
 pub mod Shape
 pub mod Meaning
 pub mod Spelling
+pub mod Views

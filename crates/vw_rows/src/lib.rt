@@ -3,15 +3,22 @@
 #![tactic(auto)]
 
 mod forms;
+mod layout;
 mod lookup;
+mod meaning;
+mod numbers;
+mod parts;
 mod patterns;
 mod shape;
 mod tables;
 
 pub use forms::{Immediate, Kind, Operands, Row, Sizing};
+pub use layout::{displacement_length, has_fixed, has_modrm, immediate_length, takes_sib, width_at};
 pub use lookup::{one_row_per_key, row_of};
+pub use meaning::{built, insn_of};
+pub use parts::{Modrm, Parts, rex_w};
 pub use patterns::{Form, Key, Map, Pattern, Prefix, Prefixes};
-pub use shape::Shape;
+pub use shape::{Shape, shape_of};
 
 #[cfg(test)]
 mod tests;
