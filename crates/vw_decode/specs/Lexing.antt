@@ -1,6 +1,6 @@
 -- Reading an instruction from the front of a list of bytes, part by part: each function answers the part
 -- and the bytes behind it, or nothing where the bytes do not begin with that part.
-use Rattle.std.specs.Prelude.{ℕ, ◌+◌, ◌/◌, ◌%◌, ◌==◌, Bool, true, false, if◌then◌else◌, nat_le, Option, None, Some, List, [], ◌∷◌, length, take, drop, find}
+use Rattle.std.specs.Prelude.{ℕ, ◌/◌, ◌%◌, ◌==◌, Bool, true, false, if◌then◌else◌, nat_le, Option, None, Some, List, [], ◌∷◌, length, take, drop, find}
 use Rattle.vw_insn.specs.declared.registers.Width.{Width}
 use Rattle.vw_rows.specs.declared.patterns.Prefix.{Prefix}
 use Rattle.vw_rows.specs.declared.patterns.Prefix.TheVariants.{Plain, P66, PF2, PF3}

@@ -1,5 +1,4 @@
 -- What was read, without where its bytes lie in memory.
-use Rattle.std.specs.Prelude.{ℕ}
 use Rattle.vw_rows.specs.Views.{parts_view}
 use Rattle.vw_decode.specs.declared.head.Head as code_head
 use Rattle.vw_decode.specs.declared.tail.Found as code_found

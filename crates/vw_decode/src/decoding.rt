@@ -10,6 +10,7 @@ use vw_rows::insn_of;
 /// 2). `None` exactly where no front of them spells one.
 pub fn decode(bytes: &[u8]) -> Option<(Insn, usize)>
     ensures within { IfSome result (λ found. found.1 ≤ length bytes.now) }
+    ensures size { IfSome result (λ found. (1 ≤ found.1) × (found.1 ≤ 15)) }
     ensures found { IfSome result (λ found. Spells (take found.1 bytes.now) found.0) }
     ensures only { (n : ℕ) (insn : Insn) → n ≤ length bytes.now → Spells (take n bytes.now) insn → result ≡ Some (insn, n) }
 {
