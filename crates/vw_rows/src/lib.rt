@@ -10,6 +10,7 @@ mod numbers;
 mod parts;
 mod patterns;
 mod shape;
+mod spelling;
 mod tables;
 
 pub use forms::{Immediate, Kind, Operands, Row, Sizing};
@@ -19,6 +20,7 @@ pub use meaning::{built, insn_of};
 pub use parts::{Modrm, Parts, rex_w};
 pub use patterns::{Form, Key, Map, Pattern, Prefix, Prefixes};
 pub use shape::{Shape, shape_of};
+pub use spelling::spelled_is_listed;
 
 #[cfg(test)]
 mod tests;
