@@ -1,5 +1,6 @@
 ghost use Rattle.std.specs.Prelude.{◌≡◌, ℕ, ◌<◌, ◌≤◌, List, ◌++◌, length, take, Some, IfSome};
 ghost use Rattle.vw_insn.specs.declared.instruction.Insn.{Insn};
+ghost use Rattle.vw_insn.specs.Listed.{IsListed};
 ghost use Rattle.vw_rows.specs.Spelling.{Spells};
 
 use crate::tail::read;
@@ -12,6 +13,7 @@ pub fn decode(bytes: &[u8]) -> Option<(Insn, usize)>
     ensures within { IfSome result (λ found. found.1 ≤ length bytes.now) }
     ensures size { IfSome result (λ found. (1 ≤ found.1) × (found.1 ≤ 15)) }
     ensures found { IfSome result (λ found. Spells (take found.1 bytes.now) found.0) }
+    ensures listed { IfSome result (λ found. IsListed found.0) }
     ensures only { (n : ℕ) (insn : Insn) → n ≤ length bytes.now → Spells (take n bytes.now) insn → result ≡ Some (insn, n) }
 {
     let found = read(bytes)?;

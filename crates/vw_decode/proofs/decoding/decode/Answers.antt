@@ -1,4 +1,5 @@
 use Rattle.std.proofs.Common.{sym, ◌∙◌, arith}
+use Rattle.vw_rows.proofs.SpelledListed.{spelled_listed}
 use Rattle.vw_decode.specs.Views.{found_view}
 use Rattle.vw_decode.proofs.Whole.{rest_within, read_spells, none_spelled, one_answer, same_answer, read_length}
 use Rattle.vw_decode.proofs.decoding.decode.Goals as goal
@@ -19,3 +20,6 @@ returns-clause-only c = λ n insn le s.
 
 pub returns-clause-size : goal.returns-clause-size
 returns-clause-size c = read_length c.args.bytes.now (found_view c.in_ok-found.found) (sym c.in_ok-found.ensures)
+
+pub returns-clause-listed : goal.returns-clause-listed
+returns-clause-listed c = spelled_listed _ _ (read_spells c.args.bytes.now (found_view c.in_ok-found.found) c.insn_of-insn.result (λ i. omega (arith, c.type_inv.bytes i)) (sym c.in_ok-found.ensures) c.insn_of-insn.ensures)
