@@ -81,9 +81,16 @@ tail_takes h row f e =
     let g = guard_some (has_fixed row.operands (parts_of h m.0 i.0)) made f c.2 in
     let s = split_takes (immediate_length row.immediate w) m.1 i c.1 in
     let here : Tailed h row made = record {
-      modrm = m.0; imm = i.0; behind = m.1; parts = refl; row_is = refl; width = a.1;
+      modrm = m.0;
+      imm = i.0;
+      behind = m.1;
+      parts = refl;
+      row_is = refl;
+      width = a.1;
       modded = modrm_takes (has_modrm row.operands) h.rest m b.1;
-      there = s.0; len = s.1; fixed = g.0;
+      there = s.0;
+      len = s.1;
+      fixed = g.0;
     } in
     subst (λ (x : Found). Tailed h row x) g.1 here
 

@@ -57,12 +57,16 @@ read_of bytes h row f a b c =
     let t = tail_takes h row f c in
     let parts = parts_of h t.modrm t.imm in
     let there : bytes ≡ bytes_of parts ++ f.rest =
-        head.0 ∙ (ap (λ (s : List ℕ). prefix_bytes h.prefix ++ (rex_bytes h.rex ++ (opcode_bytes h.map h.opcode ++ s))) (t.modded.there ∙ ap (λ (s : List ℕ). modrm_bytes t.modrm ++ s) t.there)
-        ∙ grouped (prefix_bytes h.prefix) (rex_bytes h.rex) (opcode_bytes h.map h.opcode) (modrm_bytes t.modrm) t.imm f.rest) in
+    head.0 ∙ (ap (λ (s : List ℕ). prefix_bytes h.prefix ++ (rex_bytes h.rex ++ (opcode_bytes h.map h.opcode ++ s))) (t.modded.there ∙ ap (λ (s : List ℕ). modrm_bytes t.modrm ++ s) t.there)
+    ∙ grouped (prefix_bytes h.prefix) (rex_bytes h.rex) (opcode_bytes h.map h.opcode) (modrm_bytes t.modrm) t.imm f.rest) in
     let laid : IsLaid parts row f.width = record {
       listed = found.0;
       found = to_parts row found.0 (has_modrm row.operands) refl h.prefix h.map h.opcode h.rest t.behind t.modrm t.modded found.1;
-      rex = head.1; width = t.width; modrm = t.modded.laid; imm = t.len; fixed = t.fixed;
+      rex = head.1;
+      width = t.width;
+      modrm = t.modded.laid;
+      imm = t.len;
+      fixed = t.fixed;
     } in
     record {
       there = there ∙ ap (λ (p : Parts). bytes_of p ++ f.rest) (sym t.parts);
@@ -116,7 +120,11 @@ pub read_spells : (bytes : List ℕ) (f : Found) (insn : Insn) → IsBytes bytes
 read_spells bytes f insn fits e is =
     let r = read_takes bytes f e in
     record {
-      parts = f.parts; row = f.row; width = f.width; laid = r.laid; meant = sym is;
+      parts = f.parts;
+      row = f.row;
+      width = f.width;
+      laid = r.laid;
+      meant = sym is;
       spelled = front_is bytes (bytes_of f.parts) f.rest r.there;
       are_bytes = IsBytes-take (length bytes - length f.rest) bytes fits;
     }

@@ -92,7 +92,7 @@ unfoldable pub tail_at : Head → Row → Option Found
 tail_at h row =
     width_at row.width h.prefix (rex_w h.rex) >>= λ w. modrm_at (has_modrm row.operands) h.rest >>= λ m. split (immediate_length row.immediate w) m.1 >>= λ i.
     (let parts : Parts = record { prefix = h.prefix; rex = h.rex; map = h.map; opcode = h.opcode; modrm = m.0; imm = i.0 } in
-     if has_fixed row.operands parts then Some (record { row = row; width = w; parts = parts; rest = i.1 }) else None)
+    if has_fixed row.operands parts then Some (record { row = row; width = w; parts = parts; rest = i.1 }) else None)
 
 unfoldable pub read : List ℕ → Option Found
 read bytes = head_at bytes >>= λ h. row_at h.prefix h.map h.opcode h.rest >>= λ row. tail_at h row

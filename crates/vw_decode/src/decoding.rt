@@ -24,5 +24,4 @@ pub fn decode(bytes: &[u8]) -> Option<(Insn, usize)>
 /// No spelling begins another: where one does, both are the same bytes and the same instruction.
 pub fn one_spelling()
     ensures { (a b x y : List ℕ) (i j : Insn) → Spells a i → Spells b j → a ++ x ≡ b ++ y → (a ≡ b) × (i ≡ j) }
-{
-}
+{}

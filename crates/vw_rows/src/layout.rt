@@ -27,20 +27,8 @@ pub fn width_at(sizing: Sizing, prefix: Prefix, w: bool) -> Option<Width>
         Sizing::V => variable_width(prefix, w),
         Sizing::V32Or64 => wide_width(variable_width(prefix, w)),
         Sizing::Q => Some(Width::W64),
-        Sizing::OnlyW => {
-            if w {
-                Some(Width::W64)
-            } else {
-                None
-            }
-        }
-        Sizing::Narrow => {
-            if w {
-                None
-            } else {
-                Some(Width::W32)
-            }
-        }
+        Sizing::OnlyW => { if w { Some(Width::W64) } else { None } }
+        Sizing::Narrow => { if w { None } else { Some(Width::W32) } }
         Sizing::Wide => {
             if w {
                 Some(Width::W64)

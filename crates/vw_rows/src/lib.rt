@@ -14,7 +14,9 @@ mod spelling;
 mod tables;
 
 pub use forms::{Immediate, Kind, Operands, Row, Sizing};
-pub use layout::{displacement_length, has_fixed, has_modrm, immediate_length, takes_sib, width_at};
+pub use layout::{
+    displacement_length, has_fixed, has_modrm, immediate_length, takes_sib, width_at,
+};
 pub use lookup::{one_row_per_key, row_of};
 pub use meaning::{built, insn_of};
 pub use parts::{Modrm, Parts, rex_w};

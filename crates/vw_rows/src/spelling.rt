@@ -7,5 +7,4 @@ ghost use Rattle.vw_rows.specs.Spelling.{Spells};
 /// printed.
 pub fn spelled_is_listed()
     ensures { (bytes : List ℕ) (insn : Insn) → Spells bytes insn → IsListed insn }
-{
-}
+{}
