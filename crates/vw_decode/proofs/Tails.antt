@@ -31,7 +31,7 @@ address_takes byte bytes m e =
     let two = split_takes (displacement_length byte s.0) s.1 d.0 d.1 in
     let there : bytes ≡ (sib_bytes s.0 ++ d.0.0) ++ d.0.1 = one.0 ∙ (ap (λ (t : List ℕ). sib_bytes s.0 ++ t) two.0 ∙ sym (append_assoc (sib_bytes s.0) d.0.0 d.0.1)) in
     let here : Addressed byte bytes made.0 made.1 = record { there = ap (λ (t : List ℕ). byte ∷ t) there; laid = record { sib = one.1; disp = two.1 }; first = refl } in
-    subst (λ (x : Modrm × List ℕ). Addressed byte bytes x.0 x.1) is here
+    subst (λ (x : Modrm × List ℕ). Addressed byte bytes x.0 x.1) {x = made} is here
 
 -- ModRM is read by its first byte
 pub record Modded (is : Bool) (bytes : List ℕ) (m : Option Modrm) (rest : List ℕ) : Type 0 where
@@ -92,7 +92,7 @@ tail_takes h row f e =
       len = s.1;
       fixed = g.0;
     } in
-    subst (λ (x : Found). Tailed h row x) g.1 here
+    subst (λ (x : Found). Tailed h row x) {x = made} g.1 here
 
 -- ---- what is there is read
 

@@ -1,19 +1,16 @@
 -- Every instruction that has a spelling is one that the texts and the statements are defined of.
-use Rattle.std.proofs.Common.{◌≡◌, ◌≢◌, ◌⊎◌, ℕ, zero, suc, ◌+◌, ◌*◌, ◌-◌, ◌/◌, ◌%◌, ◌^◌, ◌<◌, ◌≤◌, ◌==◌, ℤ, pos, negsuc, Bool, true, false, cond, not, ◌&&◌, ◌||◌, List, [], ◌∷◌, ◌++◌, length, get_or, Option, Some, None, IfSome, refl, sym, ◌∙◌, ap, subst, arith, ltb, inl, inr}
+use Rattle.std.proofs.Common.{◌≡◌, ◌≢◌, ◌⊎◌, ℕ, zero, suc, ◌+◌, ◌*◌, ◌%◌, ◌^◌, ◌<◌, ◌≤◌, ◌==◌, ℤ, pos, negsuc, Bool, true, false, ◌&&◌, ◌||◌, List, [], ◌∷◌, ◌++◌, length, get_or, Option, Some, None, IfSome, refl, sym, ◌∙◌, ap, subst, arith, ltb, inl, inr}
 use Rattle.std.specs.Prelude.{◌≤ℤ◌}
 use Rattle.std.proofs.lemmas.Bool.{and_parts, cases_Bool, cases_lt, eqb-true, false≢true}
 use Rattle.std.proofs.lemmas.Int.{ints}
 use Rattle.std.specs.List.{list_all}
-use Rattle.vw_insn.specs.declared.registers.Reg.{Reg}
-use Rattle.vw_insn.specs.declared.registers.Reg.TheVariants.{Rax, Rsp}
+use Rattle.vw_insn.specs.declared.registers.Reg.TheVariants.{Rsp}
 use Rattle.vw_insn.specs.declared.registers.Width.{Width}
 use Rattle.vw_insn.specs.declared.registers.Width.TheVariants.{W8, W16, W32, W64}
 use Rattle.vw_insn.specs.declared.operands.Base.TheVariants as base
-use Rattle.vw_insn.specs.declared.operands.Mem.{Mem}
 use Rattle.vw_insn.specs.declared.operands.Place.{Place}
 use Rattle.vw_insn.specs.declared.operands.Place.TheVariants as place
 use Rattle.vw_insn.specs.declared.operands.Source.TheVariants as source
-use Rattle.vw_insn.specs.declared.operands.XmmOperand.TheVariants as xmm
 use Rattle.vw_insn.specs.declared.instruction.Insn.{Insn}
 use Rattle.vw_insn.specs.Words.{number}
 use Rattle.vw_insn.specs.Listed.{IsIndex, IsMem, IsPlace, IsFullPlace, IsSource, IsFullSource, IsTested, IsBitNumber, IsWord, IsWide, IsNarrow, IsXmmOperand, IsListed}
@@ -30,12 +27,11 @@ use Rattle.vw_rows.specs.declared.forms.Immediate.TheVariants as imm
 use Rattle.vw_rows.specs.declared.forms.Row.{Row}
 use Rattle.vw_rows.specs.declared.shape.Shape.{Shape}
 use Rattle.vw_rows.specs.Rows.{rows}
-use Rattle.vw_rows.specs.Numbers.{IsBytes, signed_of, byte_of, word_of}
+use Rattle.vw_rows.specs.Numbers.{IsBytes, signed_of, unsigned_of}
 use Rattle.vw_rows.specs.Parts.{Modrm, Parts, prefix_bytes, rex_bytes, opcode_bytes, sib_bytes, modrm_bytes, bytes_of, mode, rm, scale, index, rex_w, rex_r, rex_x, rex_b}
-use Rattle.vw_rows.specs.Parts as parts
 use Rattle.vw_rows.specs.Layout.{without_base, variable_width, wide_width, width_at, immediate_length, IsLaid}
-use Rattle.vw_rows.specs.Shape.{register, high_register, has_rex, byte_register, register_place, base_at, index_at, memory_at, rm_place, reg_number, xmm_operand, rm_width, first_place, second_place, xmm_register, xmm_second, signed_immediate, byte_immediate, shape_of}
-use Rattle.vw_rows.specs.Meaning.{register_in, memory_in, is_given, source_or, third_operand, count_by, mov_immediate, is_wide, built, insn_of}
+use Rattle.vw_rows.specs.Shape.{register, has_rex, byte_register, register_place, base_at, index_at, memory_at, rm_place, reg_number, xmm_operand, rm_width, first_place, second_place, xmm_register, xmm_second, signed_immediate, byte_immediate}
+use Rattle.vw_rows.specs.Meaning.{memory_in, is_given, source_or, mov_immediate, built, insn_of}
 use Rattle.vw_rows.specs.Spelling.{Spells}
 use Rattle.vw_rows.proofs.Uniqueness.{rows_all}
 
@@ -471,7 +467,7 @@ shaped k o i w p = record {
   second = second_place o k w p;
   signed = signed_immediate i p.imm;
   byte = byte_immediate i p.imm;
-  word = word_of p.imm;
+  word = unsigned_of p.imm;
   reg = xmm_register o p;
   rm = xmm_second o p;
 }
@@ -492,7 +488,7 @@ kind_listed kind.JumpInd o i s w p h word wide len b = first_full o kind.JumpInd
 kind_listed kind.Test o i s w p h word wide len b = (first_listed o kind.Test w p b.sib, tested (is_given i) o kind.Test w p (signed_immediate i p.imm) h)
 kind_listed kind.Xchg o i s w p h word wide len b = word h
 kind_listed kind.Mov o i s w p h word wide len b = (first_listed o kind.Mov w p b.sib, source_listed (is_given i) (second_place o kind.Mov w p) (signed_immediate i p.imm) (second_listed o kind.Mov w p b.sib))
-kind_listed kind.MovImm o i s w p h word wide len b = mov_listed w (first_place o kind.MovImm w p) (signed_immediate i p.imm) (word_of p.imm) (first_listed o kind.MovImm w p b.sib)
+kind_listed kind.MovImm o i s w p h word wide len b = mov_listed w (first_place o kind.MovImm w p) (signed_immediate i p.imm) (unsigned_of p.imm) (first_listed o kind.MovImm w p b.sib)
 kind_listed kind.Lea o i s w p h word wide len b = (word h, memory_in_listed (second_place o kind.Lea w p) (second_listed o kind.Lea w p b.sib))
 kind_listed kind.Nop o i s w p h word wide len b = tt
 kind_listed kind.Widen o i s w p h word wide len b = word h

@@ -7,8 +7,8 @@ use Rattle.std.specs.Int.{w8, w16, w32, cast_signed}
 abbrev pub IsBytes : List ℕ → Type 0
 IsBytes bytes = (i : ℕ) → slice_index bytes i < 256
 
--- The number in two's complement of one, two or four bytes (SDM volume 2, 2.1.4 and 2.2.1.5: a
--- displacement or an immediate is sign-extended). No byte is 0.
+-- The number in two's complement of one, two or four bytes (SDM volume 2, 2.2.1.3 and 2.2.1.5:
+-- a displacement or an immediate is sign-extended). Without bytes it is 0.
 abbrev pub signed_of : List ℕ → ℤ
 signed_of (a ∷ []) = cast_signed w8 a
 signed_of (a ∷ b ∷ []) = cast_signed w16 (a + 2 ^ 8 * b)
@@ -21,7 +21,7 @@ byte_of (a ∷ []) = a
 byte_of _ = 0
 
 -- the unsigned number of eight bytes (SDM volume 2, 2.2.1.5: MOV of 64 immediate bits)
-abbrev pub word_of : List ℕ → ℕ
-word_of (a ∷ b ∷ c ∷ d ∷ e ∷ f ∷ g ∷ h ∷ []) =
+abbrev pub unsigned_of : List ℕ → ℕ
+unsigned_of (a ∷ b ∷ c ∷ d ∷ e ∷ f ∷ g ∷ h ∷ []) =
     a + 2 ^ 8 * b + 2 ^ 16 * c + 2 ^ 24 * d + 2 ^ 32 * e + 2 ^ 40 * f + 2 ^ 48 * g + 2 ^ 56 * h
-word_of _ = 0
+unsigned_of _ = 0

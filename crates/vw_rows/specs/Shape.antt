@@ -1,5 +1,5 @@
 -- The operands of an instruction, read from its parts.
-use Rattle.std.specs.Prelude.{ℕ, ◌+◌, ◌*◌, ◌-◌, ◌^◌, ◌%◌, ◌<◌, ◌==◌, Bool, true, false, if◌then◌else◌, nat_lt, ℤ, pos, Option, None, Some, List, [], ◌∷◌}
+use Rattle.std.specs.Prelude.{ℕ, ◌+◌, ◌*◌, ◌-◌, ◌^◌, ◌%◌, ◌==◌, Bool, true, false, if◌then◌else◌, nat_lt, ℤ, pos, Option, None, Some, List, [], ◌∷◌}
 use Rattle.std.proofs.Common.{get_or}
 use Rattle.vw_insn.specs.declared.registers.Reg.{Reg}
 use Rattle.vw_insn.specs.declared.registers.Reg.TheVariants.{Rax, Rcx, Rdx, Rbx, Rsp, Rbp, Rsi, Rdi, R8, R9, R10, R11, R12, R13, R14, R15}
@@ -22,7 +22,7 @@ use Rattle.vw_rows.specs.declared.forms.Immediate.{Immediate}
 use Rattle.vw_rows.specs.declared.forms.Immediate.TheVariants as imm
 use Rattle.vw_rows.specs.declared.forms.Row.{Row}
 use Rattle.vw_rows.specs.declared.shape.Shape.{Shape}
-use Rattle.vw_rows.specs.Numbers.{signed_of, byte_of, word_of}
+use Rattle.vw_rows.specs.Numbers.{signed_of, byte_of, unsigned_of}
 use Rattle.vw_rows.specs.Parts.{Modrm, Parts, mode, reg, rm, scale, index, rex_r, rex_x, rex_b}
 use Rattle.vw_rows.specs.Parts as parts
 use Rattle.vw_rows.specs.Layout.{without_base}
@@ -164,7 +164,7 @@ shape_of row w p = record {
   second = second_place row.operands row.kind w p;
   signed = signed_immediate row.immediate p.imm;
   byte = byte_immediate row.immediate p.imm;
-  word = word_of p.imm;
+  word = unsigned_of p.imm;
   reg = xmm_register row.operands p;
   rm = xmm_second row.operands p;
 }

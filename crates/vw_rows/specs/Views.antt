@@ -1,5 +1,5 @@
 -- The parts of an instruction, without where their bytes lie in memory.
-use Rattle.std.specs.Prelude.{ℕ, Option, None, Some}
+use Rattle.std.specs.Prelude.{Option, None, Some}
 use Rattle.vw_rows.specs.declared.parts.Modrm as code_modrm
 use Rattle.vw_rows.specs.declared.parts.Parts as code_parts
 use Rattle.vw_rows.specs.Parts.{Modrm, Parts}

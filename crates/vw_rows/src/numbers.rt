@@ -1,8 +1,9 @@
 ghost use Rattle.std.specs.Prelude.{◌≡◌};
-ghost use Rattle.vw_rows.specs.Numbers.{signed_of, byte_of, word_of};
+ghost use Rattle.vw_rows.specs.Numbers.{signed_of, byte_of, unsigned_of};
 
 /// The number in two's complement of one, two or four bytes, the least significant first (SDM volume 2,
-/// 2.1.4): a displacement or an immediate, before it is sign-extended to the width of the operation.
+/// 2.2.1.3 and 2.2.1.5): a displacement or an immediate, before it is sign-extended to the operation's
+/// width.
 /// It is 0 where there are no bytes, or another number of them.
 pub fn signed_of(bytes: &[u8]) -> i32
     ensures { result ≡ signed_of bytes.now }
@@ -26,8 +27,8 @@ pub fn byte_of(bytes: &[u8]) -> u8
 }
 
 /// The unsigned number of eight bytes, the least significant first, and 0 where there are not eight.
-pub fn word_of(bytes: &[u8]) -> u64
-    ensures { result ≡ word_of bytes.now }
+pub fn unsigned_of(bytes: &[u8]) -> u64
+    ensures { result ≡ unsigned_of bytes.now }
 {
     match bytes {
         [a, b, c, d, e, f, g, h] => u64::from_le_bytes([*a, *b, *c, *d, *e, *f, *g, *h]),

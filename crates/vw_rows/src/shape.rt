@@ -4,7 +4,7 @@ ghost use Rattle.vw_rows.specs.Views.{modrm_view, optional_view, parts_view};
 ghost use Rattle.vw_rows.specs.Shape.{register, high_register, byte_register, has_rex, register_place, base_at, index_at, memory_at, rm_place, reg_number, xmm_operand, rm_width, first_place, second_place, xmm_register, xmm_second, signed_immediate, byte_immediate, shape_of};
 
 use crate::layout::without_base;
-use crate::numbers::{byte_of, signed_of, word_of};
+use crate::numbers::{byte_of, signed_of, unsigned_of};
 use crate::parts::{Modrm, Parts, rex_b, rex_r, rex_x};
 use crate::{Immediate, Kind, Operands, Row};
 use vw_insn::{Base, HighReg, Mem, Place, Reg, Width, XmmOperand};
@@ -41,7 +41,7 @@ pub fn shape_of(row: Row, w: Width, parts: &Parts<'_>) -> Shape
         second: second_place(row.operands, row.kind, w, parts),
         signed: signed_immediate(row.immediate, parts.imm),
         byte: byte_immediate(row.immediate, parts.imm),
-        word: word_of(parts.imm),
+        word: unsigned_of(parts.imm),
         reg: xmm_register(row.operands, parts),
         rm: xmm_second(row.operands, parts),
     }
