@@ -96,3 +96,30 @@ row_only k table answer h i r there hit =
     let is : answer ≡ Some found.0 = e ∙ found.1 in
     let fact = subst (λ (o : Option Row). IfSome o (λ (s : Row). IsIn s rows × (matches s k ≡ true))) is (row_found k table answer h i) in
     is ∙ ap (λ (s : Row). Some s) (one_row k found.0 r fact.0 there fact.1 hit)
+
+-- the search in all rows answers a row of the key
+pub find_is : (k : Key) (r : Row) → find (λ (s : Row). matches s k) rows ≡ Some r → IsIn r rows × (matches r k ≡ true)
+find_is k r is = subst (λ (o : Option Row). IfSome o (λ (s : Row). IsIn s rows × (matches s k ≡ true))) is (find-some (λ (s : Row). matches s k) rows)
+
+-- a row of the key is what the search in all rows answers
+pub find_row : (k : Key) (r : Row) → IsIn r rows → matches r k ≡ true → find (λ (s : Row). matches s k) rows ≡ Some r
+find_row k r there hit =
+    let found = find-there (λ (s : Row). matches s k) rows r there hit in
+    let fact = find_is k found.0 found.1 in
+    found.1 ∙ ap (λ (s : Row). Some s) (one_row k found.0 r fact.0 there fact.1 hit)
+
+abbrev no_row : Option Row
+no_row = None
+
+none_found : (k : Key) (o : Option Row) → o ≡ find (λ (s : Row). matches s k) rows → ((r : Row) → IsIn r rows → matches r k ≡ true → no_row ≡ Some r) → no_row ≡ find (λ (s : Row). matches s k) rows
+none_found k None is only = is
+none_found k (Some r) is only = let fact = find_is k r (sym is) in only r fact.0 fact.1 ∙ is
+
+-- an answer that is a row of the key, and that each row of the key is, is what the search answers
+pub find_answer : (k : Key) (answer : Option Row) → IfSome answer (λ (r : Row). IsIn r rows × (matches r k ≡ true)) → ((r : Row) → IsIn r rows → matches r k ≡ true → answer ≡ Some r) → answer ≡ find (λ (s : Row). matches s k) rows
+find_answer k (Some r) found only = sym (find_row k r found.0 found.1)
+find_answer k None found only = none_found k (find (λ (s : Row). matches s k) rows) refl only
+
+-- a test that each row passes
+pub rows_all : (p : Row → Bool) → list_all p rows ≡ true → (r : Row) → IsIn r rows → p r ≡ true
+rows_all p h r i = all_at p rows h r i

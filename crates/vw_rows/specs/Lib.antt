@@ -1,2 +1,9 @@
 pub mod Rows
 pub mod Lookup
+pub mod Numbers
+pub mod Parts
+pub mod Layout
+pub mod Shape
+pub mod Meaning
+pub mod Spelling
+pub mod Views

@@ -85,7 +85,7 @@ pub enum Sizing {
     Wide,
 }
 
-/// What follows ModRM, SIB and displacement (SDM volume 2, 2.1.6 and A.2.2).
+/// What follows ModRM, SIB and displacement (SDM volume 2, 2.1.4 and A.2.2).
 #[derive(Clone, Copy, Debug, PartialEq, Eq)]
 pub enum Immediate {
     /// Nothing.

@@ -3,13 +3,26 @@
 #![tactic(auto)]
 
 mod forms;
+mod layout;
 mod lookup;
+mod meaning;
+mod numbers;
+mod parts;
 mod patterns;
+mod shape;
+mod spelling;
 mod tables;
 
 pub use forms::{Immediate, Kind, Operands, Row, Sizing};
+pub use layout::{
+    displacement_length, has_fixed, has_modrm, immediate_length, takes_sib, width_at,
+};
 pub use lookup::{one_row_per_key, row_of};
+pub use meaning::{built, insn_of};
+pub use parts::{Modrm, Parts, rex_w};
 pub use patterns::{Form, Key, Map, Pattern, Prefix, Prefixes};
+pub use shape::{Shape, shape_of};
+pub use spelling::spelled_is_listed;
 
 #[cfg(test)]
 mod tests;
