@@ -13,3 +13,6 @@ pub use image::Image;
 pub use laws::{code_is_settled, file_bytes_are_memory, readable_is_settled, words_spell};
 pub use stub::{Stub, StubTo};
 pub use word::Word;
+
+#[cfg(test)]
+mod tests;
