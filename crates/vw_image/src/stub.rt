@@ -1,6 +1,6 @@
-ghost use Rattle.std.specs.Prelude.{◌≡◌, ◌+◌, ◌≤◌, ◌^◌, length, true, Some, None, if◌then◌else◌};
+ghost use Rattle.std.specs.Prelude.{◌≡◌, ◌+◌, ◌≤◌, length, true, Some, None, if◌then◌else◌};
 ghost use Rattle.vw_bits.specs.Places.{in_memory};
-ghost use Rattle.vw_image.specs.Bounds.{AreBounded, AllApart};
+ghost use Rattle.vw_image.specs.Bounds.{IsBounded, AreBounded, AllApart};
 ghost use Rattle.vw_image.specs.Image.{segment_byte};
 ghost use Rattle.vw_image.specs.Stubs.{spells, stands_at, slot_behind, slot_at};
 
@@ -71,9 +71,8 @@ fn slot_behind(bytes: &[u8], segments: &[Segment], address: u64, opcode: &[u8]) 
 
 // Whether the bytes from an address on are these.
 fn spells(bytes: &[u8], segment: &Segment, address: u64, expected: &[u8]) -> bool
-    requires inside { segment.now.offset + segment.now.filesz ≤ length bytes.now }
+    requires bounded { IsBounded (length bytes.now) segment.now }
     requires held { in_memory address (length expected.now) segment.now ≡ true }
-    requires below { segment.now.vaddr + segment.now.memsz ≤ 2 ^ 31 }
     ensures { result ≡ spells (segment_byte bytes.now segment.now) address expected.now }
 {
     let mut at = address;

@@ -1,0 +1,38 @@
+use Rattle.std.proofs.Common.{◌≡◌, ◌≢◌, ℕ, ◌+◌, ◌++◌, [], ◌∷◌, List, Bool, true, false, cond, take, get_or, refl, sym, rules, arith}
+use Rattle.std.specs.List.{filter}
+use Rattle.std.specs.BTreeMap.{get, is_at}
+use Rattle.std.specs.Ordering.{nat_cmp}
+use Rattle.std.proofs.lemmas.List.{take_more, append-nil}
+use Rattle.std.proofs.lemmas.List.Elements.{filter-append}
+use Rattle.std.proofs.lemmas.Bool.Decides.{nat_tests}
+use Rattle.vw_dynamic.specs.declared.dynamic.Relocation.{Relocation}
+use Rattle.vw_image.specs.Bounds.{AreSeparate}
+use Rattle.vw_image.specs.Index.{kind_at, is_bound_kind, bound_ones, IsIndex}
+use Rattle.vw_image.proofs.Lists.{All-filter}
+use Rattle.vw_image.proofs.Relocations.{blank, kind_at-before, IsIndex-more, front_separate}
+use Rattle.vw_image.proofs.index.bound_by_place.Goals as goal
+use Rattle.vw_image.proofs.index.bound_by_place.Goals.{in-Bound+in_ok-insert, in_default}
+
+apart_at : (k q : ℕ) → k ≢ q → is_at (nat_cmp k) q ≡ false
+apart_at k q apart = grind (arith, nat_tests)
+
+bound-more : (xs : List Relocation) (r : Relocation) → is_bound_kind r.kind ≡ true → bound_ones (xs ++ r ∷ []) ≡ bound_ones xs ++ r ∷ []
+bound-more xs r is = rw (filter-append, is) refl
+
+bound-same : (xs : List Relocation) (r : Relocation) → is_bound_kind r.kind ≡ false → bound_ones (xs ++ r ∷ []) ≡ bound_ones xs
+bound-same xs r is = rw (filter-append, is, append-nil) refl
+
+pub loop-relocation-init : goal.loop-relocation-init
+unfolding kind_at
+loop-relocation-init c = λ q. rw c.new-index.ensures.empty refl
+
+pub loop-relocation-preserved : goal.loop-relocation-preserved
+loop-relocation-preserved c =
+    let xs = c.args.relocations.now in
+    let i = c.loop-relocation.relocation-index in
+    let r = get_or xs i blank in
+    let step : take (i + 1) xs ≡ take i xs ++ r ∷ [] = take_more xs i blank c.loop-relocation-test.true in
+    elim c.match-relocation.branch [
+      | in-Bound+in_ok-insert w ↦ ?
+      | in_default w ↦ ?
+    ]
