@@ -2,3 +2,5 @@ pub mod Lists
 pub mod Numbers
 pub mod Segments
 pub mod Relocations
+pub mod Rules
+pub mod Words

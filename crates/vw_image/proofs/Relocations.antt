@@ -67,26 +67,27 @@ front_separate xs i inside pairs =
     Pairwise-before AreSeparate (take i xs) (get_or xs i blank) (drop (suc i) xs) (subst AllSeparate (split_at xs i blank inside) pairs)
 
 -- the relocation that an index has at a place is one of the list's, and each of these is there
-some_kind : (xs : List Relocation) (q : ℕ) → IsSome (kind_at xs q) → (f : ℕ → Bool) → f q ≡ true → list_any (λ r. f r.place) xs ≡ true
+some_step : (r : Relocation) (found : Option Relocation) (rest : Bool) (q : ℕ) (here : Bool) (f : ℕ → Bool) → (r.place == q) ≡ here → f q ≡ true → (IsSome (option_map (λ s. s.kind) found) → rest ≡ true) → IsSome (option_map (λ s. s.kind) (cond here (Some r) found)) → (f r.place || rest) ≡ true
+some_step r found rest q true f is passes behind there =
+    let e : r.place ≡ q = grind (arith, nat_tests, is) in
+    let first : f r.place ≡ true = ap f e ∙ passes in
+    rw first refl
+some_step r found rest q false f is passes behind there = rw (behind there) (or_true (f r.place))
+
+some_kind : (xs : List Relocation) (q : ℕ) (f : ℕ → Bool) → f q ≡ true → IsSome (kind_at xs q) → list_any (λ r. f r.place) xs ≡ true
 unfolding kind_at
-some_kind [] q some f passes = absurd some
-some_kind (r ∷ xs) q some f passes = at (r.place == q) refl some
-  where
-    at : (here : Bool) → (r.place == q) ≡ here → IsSome (option_map (λ s. s.kind) (cond here (Some r) (find (λ s. s.place == q) xs))) → (f r.place || list_any (λ s. f s.place) xs) ≡ true
-    at true is there =
-        let e : r.place ≡ q = grind (arith, nat_tests, is) in
-        let first : f r.place ≡ true = ap f e ∙ passes in
-        rw first refl
-    at false is there = rw (some_kind xs q there f passes) (or_true (f r.place))
+some_kind [] q f passes some = absurd (false≢true some)
+some_kind (r ∷ xs) q f passes some =
+    some_step r (find (λ s. s.place == q) xs) (list_any (λ s. f s.place) xs) q (r.place == q) f refl passes (λ there. some_kind xs q f passes there) some
+
+there_step : (s : Relocation) (found : Option Relocation) (here : Bool) → IsSome (option_map (λ t. t.kind) found) → IsSome (option_map (λ t. t.kind) (cond here (Some s) found))
+there_step s found true some = refl
+there_step s found false some = some
 
 kind_there : (xs ys : List Relocation) (r : Relocation) → IsSome (kind_at (xs ++ r ∷ ys) r.place)
 unfolding kind_at
-kind_there [] ys r = rw (same_number r.place) tt
-kind_there (s ∷ xs) ys r = at (s.place == r.place)
-  where
-    at : (here : Bool) → IsSome (option_map (λ t. t.kind) (cond here (Some s) (find (λ t. t.place == r.place) (xs ++ r ∷ ys))))
-    at true = tt
-    at false = kind_there xs ys r
+kind_there [] ys r = rw (same_number r.place) refl
+kind_there (s ∷ xs) ys r = there_step s (find (λ t. t.place == r.place) (xs ++ r ∷ ys)) (s.place == r.place) (kind_there xs ys r)
 
 none_kind : (front xs : List Relocation) (f : ℕ → Bool) → ((q : ℕ) → f q ≡ true → IsSome (kind_at (front ++ xs) q) → ⊥) → list_any (λ r. f r.place) xs ≡ false
 none_kind front [] f none = refl
@@ -103,6 +104,6 @@ pub touches-any : (index : BTreeMap ℕ RelKind) (xs : List Relocation) (a n : �
     → r ≡ list_any (touches a n) xs
 touches-any index xs a n true at found none =
     let w = found refl in
-    sym (some_kind xs w.0 (subst (λ (o : Option RelKind). IsSome o) (at w.0) w.2) (shares a n) w.1)
+    sym (some_kind xs w.0 (shares a n) w.1 (subst (λ (o : Option RelKind). IsSome o) (at w.0) w.2))
 touches-any index xs a n false at found none =
     sym (none_kind [] xs (shares a n) (λ q is some. none refl q is (subst (λ (o : Option RelKind). IsSome o) (sym (at q)) some)))

@@ -13,6 +13,8 @@ use Rattle.vw_bits.specs.declared.records.Segment.{Segment}
 use Rattle.vw_bits.proofs.RuleLemmas.{lowest-each}
 use Rattle.vw_image.specs.Bounds.{IsBounded, AreBounded, Pairwise, AreApart, AllApart}
 use Rattle.vw_image.specs.Image.{segment_byte, memory_byte}
+use Rattle.vw_bits.specs.Fields.{load}
+use Rattle.vw_image.proofs.Numbers.{load-same}
 use Rattle.vw_image.proofs.Lists.{not_true, or_left, or_right, find_none-All, find-passes, find-unique, All-weaker, Pairwise-from_earlier}
 
 unfound : (found : Option Segment) → header_of found ≡ None → found ≡ None
@@ -84,3 +86,12 @@ pub in_memory-one : (a n k : ℕ) (s : Segment) → k < n → in_memory a n s �
 in_memory-one a n k s inside held =
     let p = among s.vaddr s.memsz a n held in
     among_is s.vaddr s.memsz (a + k) 1 (omega arith) (omega arith) (omega arith)
+
+pub in_memory-starts : (a n : ℕ) (s : Segment) → in_memory a n s ≡ true → s.vaddr ≤ a
+in_memory-starts a n s held = (among s.vaddr s.memsz a n held).0
+
+-- a range in the memory of a segment spells what the segment's bytes spell
+pub load-in : (bytes : List ℕ) (p : Segment → Bool) (segments : List Segment) (s : Segment) (a n : ℕ) → AllApart segments → find p segments ≡ Some s → in_memory a n s ≡ true → load (segment_byte bytes s) a n ≡ load (memory_byte bytes segments) a n
+load-in bytes p segments s a n apart found held =
+    load-same (segment_byte bytes s) (memory_byte bytes segments) a a n
+    (λ k inside. sym (memory_byte-in bytes p segments s (a + k) apart found (in_memory-one a n k s inside held)))

@@ -1,4 +1,4 @@
-use Rattle.std.proofs.Common.{◌≡◌, ◌≢◌, ℕ, ◌+◌, ◌++◌, [], ◌∷◌, List, Bool, true, false, cond, take, get_or, refl, sym, rules, arith}
+use Rattle.std.proofs.Common.{◌≡◌, ◌≢◌, ℕ, ◌+◌, ◌++◌, [], ◌∷◌, List, Bool, true, false, cond, take, get_or, refl, sym, ap, rules, arith}
 use Rattle.std.specs.List.{filter}
 use Rattle.std.specs.BTreeMap.{get, is_at}
 use Rattle.std.specs.Ordering.{nat_cmp}
@@ -33,6 +33,13 @@ loop-relocation-preserved c =
     let r = get_or xs i blank in
     let step : take (i + 1) xs ≡ take i xs ++ r ∷ [] = take_more xs i blank c.loop-relocation-test.true in
     elim c.match-relocation.branch [
-      | in-Bound+in_ok-insert w ↦ ?
-      | in_default w ↦ ?
+      | in-Bound+in_ok-insert w ↦
+          let bound : is_bound_kind r.kind ≡ true = ap is_bound_kind w.in-Bound.is in
+          let updates = w.in_ok-insert.ensures.updates in
+          rw (w.index-is, step, bound-more (take i xs) r bound) (IsIndex-more c.loop-relocation.index w.insert.new.self (bound_ones (take i xs)) r c.loop-relocation.invariant
+          (kind_at-before (bound_ones (take i xs)) r (All-filter (λ s. AreSeparate s r) (λ s. is_bound_kind s.kind) (take i xs) (front_separate xs i c.loop-relocation-test.true c.requires)))
+          updates.1 (λ q ne. updates.2 q (apart_at r.place q ne)))
+      | in_default w ↦
+          let based : is_bound_kind r.kind ≡ false = ap is_bound_kind w.in_default.is in
+          rw (w.index-is, step, bound-same (take i xs) r based) c.loop-relocation.invariant
     ]
