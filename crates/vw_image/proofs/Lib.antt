@@ -4,3 +4,4 @@ pub mod Segments
 pub mod Relocations
 pub mod Rules
 pub mod Words
+pub mod Spelled

@@ -8,6 +8,7 @@ use Rattle.std.proofs.lemmas.Bool.Decides.{nat_tests}
 use Rattle.std.proofs.lemmas.List.Folds.{list_any-append}
 use Rattle.std.proofs.lemmas.List.Quantifiers.{position-Some}
 use Rattle.vw_bits.specs.Headers.{segments_of, dynamics_of}
+use Rattle.vw_bits.specs.HeaderRules.{header_fault}
 use Rattle.vw_bits.specs.Rules.{lowest_broken, with_earlier}
 use Rattle.vw_bits.specs.declared.records.Segment.{Segment}
 use Rattle.vw_bits.specs.declared.records.DynHeader.{DynHeader}
@@ -210,3 +211,9 @@ module _ (image : Contents) (is : IsImage image) where
       subst (λ (names : List (List ℕ)). P names image.relocations) (sym imports_are)
       (subst (P (file_imports image.bytes)) (sym relocations_are)
       (numbered image.bytes (segments_of image.bytes) _ _ _))
+
+-- the image of a file, from its parts
+pub IsImage-from_rules : (bytes : List ℕ) (segments : List Segment) (relocations : List Relocation) (imports : List (List ℕ)) → header_fault bytes ≡ None → dynamic_fault bytes ≡ None
+    → segments ≡ segments_of bytes → relocations ≡ file_relocations bytes → imports ≡ file_imports bytes → IsImage (record { bytes = bytes; segments = segments; relocations = relocations; imports = imports })
+unfolding image_of
+IsImage-from_rules bytes segments relocations imports headers dynamic s r i = record { headers = headers; dynamic = dynamic; whole = rw (s, r, i) refl }
