@@ -5,3 +5,4 @@ pub mod Relocations
 pub mod Rules
 pub mod Words
 pub mod Spelled
+pub mod Stubs
