@@ -137,12 +137,12 @@ kept_one (Some n) rest some = omega arith
 -- where an item has a name, there are names
 all_named : (g : Rela → Option (List ℕ)) (xs : List Rela) → AllByRecursion (λ x. IsSome (g x) → 0 < length (filter_map g xs)) xs
 all_named g [] = tt
-all_named g (x ∷ xs) =
-    ( kept_one (g x) (filter_map g xs)
-    , All-weaker (λ y. IsSome (g y) → 0 < length (filter_map g xs)) (λ y. IsSome (g y) → 0 < length (cons_option (g x) (filter_map g xs))) xs
+all_named g (x ∷ xs) = (
+  kept_one (g x) (filter_map g xs),
+  All-weaker (λ y. IsSome (g y) → 0 < length (filter_map g xs)) (λ y. IsSome (g y) → 0 < length (cons_option (g x) (filter_map g xs))) xs
       (λ y named some. let few : 0 < length (filter_map g xs) = named some in let kept = more_kept (g x) (filter_map g xs) in omega arith)
-      (all_named g xs)
-    )
+      (all_named g xs),
+)
 
 number_below : (name : List ℕ) (names : List (List ℕ)) (at : Option ℕ) → position (bytes_eq name) names ≡ at → 0 < length names → unwrap_or at 0 < length names
 number_below name names None is some = some

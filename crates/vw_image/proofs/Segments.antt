@@ -44,10 +44,10 @@ among_is start size a n low high end = grind (arith, nat_tests)
 apart : (s t : Segment) → segments_clash s t ≡ false → AreApart s t
 apart s t none a inside =
     not_true (in_memory a 1 t) (λ there.
-        let p = among s.vaddr s.memsz a 1 inside in
-        let q = among t.vaddr t.memsz a 1 there in
-        let share = or_right (nat_le t.vaddr s.vaddr) (share_page s t) none in
-        grind (arith, nat_tests, share))
+    let p = among s.vaddr s.memsz a 1 inside in
+    let q = among t.vaddr t.memsz a 1 there in
+    let share = or_right (nat_le t.vaddr s.vaddr) (share_page s t) none in
+    grind (arith, nat_tests, share))
 
 abbrev clashes : List Segment × Segment → Bool
 clashes p = list_any (λ earlier. segments_clash earlier p.1) p.0

@@ -54,11 +54,11 @@ module _ (image : Contents) (base : ℕ) (hosts : ℕ → ℕ) where
       let distance : (a + k) - r.place ≡ k = omega arith in
       let touched : touches (a + k) 1 r ≡ true = shares_is (a + k) 1 r.place (omega arith) (omega arith) (omega arith) in
       let only : find (touches (a + k) 1) image.relocations ≡ Some r =
-          find-unique AreSeparate (λ s. s.place == a) (touches (a + k) 1) image.relocations r (image-separate image is)
-          (λ s apart. not_true (touches (a + k) 1 s) (λ there.
-              let p = shared (a + k) 1 s.place there in
-              false≢true (sym apart ∙ shares_is s.place 8 r.place (omega arith) (omega arith) (omega arith))))
-          found touched in
+      find-unique AreSeparate (λ s. s.place == a) (touches (a + k) 1) image.relocations r (image-separate image is)
+      (λ s apart. not_true (touches (a + k) 1 s) (λ there.
+      let p = shared (a + k) 1 s.place there in
+      false≢true (sym apart ∙ shares_is s.place 8 r.place (omega arith) (omega arith) (omega arith))))
+      found touched in
       relocated_byte (a + k) r only ∙ ap (λ (x : ℕ). byte_of (relocated_word base hosts r.kind) x) distance
 
   word_fits : ((number : ℕ) → hosts number < 2 ^ 64) → (kind : RelKind) → relocated_word base hosts kind < 2 ^ 64
@@ -120,13 +120,13 @@ settled_by : (image : Contents) (a n : ℕ) → list_any (touches a n) (bound_on
 settled_by image a n none base hosts other b low high None found = untouched_byte image base hosts b found ∙ sym (untouched_byte image base other b found)
 settled_by image a n none base hosts other b low high (Some r) found =
     let based : is_bound_kind r.kind ≡ false =
-        not_true (is_bound_kind r.kind) (λ bound.
-            let at : a + (b - a) ≡ b = omega arith in
-            let here : touches (a + (b - a)) 1 r ≡ true = ap (λ (x : ℕ). touches x 1 r) at ∙ find-passes (touches b 1) image.relocations r found in
-            let wide : touches a n r ≡ true = one_byte a n (b - a) r (omega arith) here in
-            let both : (is_bound_kind r.kind && touches a n r) ≡ true = rw (bound, wide) refl in
-            let any : list_any (λ s. is_bound_kind s.kind && touches a n s) image.relocations ≡ true = any-from_find (touches b 1) (λ s. is_bound_kind s.kind && touches a n s) image.relocations r found both in
-            false≢true (sym none ∙ any-filter (touches a n) (λ s. is_bound_kind s.kind) image.relocations ∙ any)) in
+    not_true (is_bound_kind r.kind) (λ bound.
+    let at : a + (b - a) ≡ b = omega arith in
+    let here : touches (a + (b - a)) 1 r ≡ true = ap (λ (x : ℕ). touches x 1 r) at ∙ find-passes (touches b 1) image.relocations r found in
+    let wide : touches a n r ≡ true = one_byte a n (b - a) r (omega arith) here in
+    let both : (is_bound_kind r.kind && touches a n r) ≡ true = rw (bound, wide) refl in
+    let any : list_any (λ s. is_bound_kind s.kind && touches a n s) image.relocations ≡ true = any-from_find (touches b 1) (λ s. is_bound_kind s.kind && touches a n s) image.relocations r found both in
+    false≢true (sym none ∙ any-filter (touches a n) (λ s. is_bound_kind s.kind) image.relocations ∙ any)) in
     relocated_byte image base hosts b r found
     ∙ ap (λ (w : ℕ). byte_of w (b - r.place)) (same_word base hosts other r.kind based)
     ∙ sym (relocated_byte image base other b r found)
@@ -162,15 +162,15 @@ code_settled image is a n inside base hosts b low high =
     untouched_byte image base hosts b
     (find-ruled_out (λ r. list_any (λ t. is_data t r.place) image.segments ≡ true) (touches b 1) image.relocations (image-placed image is)
     (λ r placed. not_true (touches b 1 r) (λ there.
-        let p = shared b 1 r.place there in
-        let data_at : Segment → Bool = λ t. is_data t r.place in
-        let t = some_passes data_at image.segments placed in
-        let fits : (in_memory r.place 8 t.0 && not (is_executable t.0)) ≡ true = find-passes data_at image.segments t.0 t.1 in
-        let in_data : in_memory b 1 t.0 ≡ true = byte_of_range r.place 8 b t.0 (omega arith) (omega arith) (and_left (in_memory r.place 8 t.0) (not (is_executable t.0)) fits) in
-        let second : find (in_memory b 1) image.segments ≡ Some t.0 = find-segment data_at image.segments t.0 b (image-apart image is) t.1 in_data in
-        let same : s.0 ≡ t.0 = same_found (find (in_memory b 1) image.segments) s.0 t.0 first second in
-        let not_code : is_executable t.0 ≡ false = negated (is_executable t.0) (and_right (in_memory r.place 8 t.0) (not (is_executable t.0)) fits) in
-        false≢true (sym not_code ∙ ap (λ (x : Segment). is_executable x) (sym same) ∙ code))))
+    let p = shared b 1 r.place there in
+    let data_at : Segment → Bool = λ t. is_data t r.place in
+    let t = some_passes data_at image.segments placed in
+    let fits : (in_memory r.place 8 t.0 && not (is_executable t.0)) ≡ true = find-passes data_at image.segments t.0 t.1 in
+    let in_data : in_memory b 1 t.0 ≡ true = byte_of_range r.place 8 b t.0 (omega arith) (omega arith) (and_left (in_memory r.place 8 t.0) (not (is_executable t.0)) fits) in
+    let second : find (in_memory b 1) image.segments ≡ Some t.0 = find-segment data_at image.segments t.0 b (image-apart image is) t.1 in_data in
+    let same : s.0 ≡ t.0 = same_found (find (in_memory b 1) image.segments) s.0 t.0 first second in
+    let not_code : is_executable t.0 ≡ false = negated (is_executable t.0) (and_right (in_memory r.place 8 t.0) (not (is_executable t.0)) fits) in
+    false≢true (sym not_code ∙ ap (λ (x : Segment). is_executable x) (sym same) ∙ code))))
 
 part_of : (found : Option Segment) (image_bytes : List ℕ) (a n : ℕ) (bytes : List ℕ) → option_map (λ at. take n (drop at image_bytes)) (option_map (λ s. s.offset + (a - s.vaddr)) found) ≡ Some bytes
     → (s : Segment) × (found ≡ Some s) × (take n (drop (s.offset + (a - s.vaddr)) image_bytes) ≡ bytes)

@@ -37,7 +37,7 @@ spells-same f g a (x ∷ xs) same =
     let start : a + 0 ≡ a = omega arith in
     let here : f a ≡ g a = ap f (sym start) ∙ same 0 (omega arith) ∙ ap g start in
     let rest : spells f (a + 1) xs ≡ spells g (a + 1) xs =
-        spells-same f g (a + 1) xs (λ k inside. let at : (a + 1) + k ≡ a + suc k = omega arith in ap f at ∙ same (suc k) (omega arith) ∙ ap g (sym at)) in
+    spells-same f g (a + 1) xs (λ k inside. let at : (a + 1) + k ≡ a + suc k = omega arith in ap f at ∙ same (suc k) (omega arith) ∙ ap g (sym at)) in
     rw (here, rest) refl
 
 module _ (bytes : List ℕ) (segments : List Segment) (a : ℕ) (opcode : List ℕ) where
@@ -71,7 +71,7 @@ module _ (bytes : List ℕ) (segments : List Segment) (a : ℕ) (opcode : List �
     these_bytes disp slot spelled is at =
         let there : spells (memory_byte bytes segments) a opcode ≡ true = sym same ∙ sym spelled in
         let read : disp ≡ load (memory_byte bytes segments) (a + length opcode) 4 =
-            is ∙ load-in bytes (holds a (length opcode + 4)) segments s (a + length opcode) 4 apart (sym found) (back_held a (length opcode) 4 s (omega arith) held) in
+        is ∙ load-in bytes (holds a (length opcode + 4)) segments s (a + length opcode) 4 apart (sym found) (back_held a (length opcode) 4 s (omega arith) held) in
         rw (inside, there) (ap Some (at ∙ ap (λ (d : ℕ). (a + length opcode + 4 + sign_extended d 4) % 2 ^ 64) read))
 
 -- the first of some opcodes

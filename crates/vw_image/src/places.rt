@@ -21,18 +21,16 @@ fn is_among(start: u64, len: u64, address: u64, size: u64) -> bool
 pub(crate) fn readable_segment(segments: &[Segment], address: u64, size: u64) -> Option<&Segment>
     ensures { option_copied result ≡ find (λ s. is_readable s && in_memory address size s) segments.now }
 {
-    segments
-        .iter()
-        .find(|s| s.rights.contains(Rights::R) && is_among(s.vaddr, s.memsz, address, size))
+    segments.iter().find(|s| s.rights.contains(Rights::R)
+        && is_among(s.vaddr, s.memsz, address, size))
 }
 
 // The first segment with the right to execute in whose memory a range is.
 pub(crate) fn executable_segment(segments: &[Segment], address: u64, size: u64) -> Option<&Segment>
     ensures { option_copied result ≡ find (λ s. is_executable s && in_memory address size s) segments.now }
 {
-    segments
-        .iter()
-        .find(|s| s.rights.contains(Rights::X) && is_among(s.vaddr, s.memsz, address, size))
+    segments.iter().find(|s| s.rights.contains(Rights::X)
+        && is_among(s.vaddr, s.memsz, address, size))
 }
 
 // The first segment in whose file part a range is.
@@ -55,11 +53,7 @@ pub(crate) fn file_bytes<'a>(
     ensures { option_copied result ≡ option_map (λ at. take size (drop at bytes.now)) (file_offset segments.now address size) }
 {
     let segment = file_segment(segments, address, size)?;
-    Some(part(
-        bytes,
-        segment.offset + (address - segment.vaddr),
-        size,
-    ))
+    Some(part(bytes, segment.offset + (address - segment.vaddr), size))
 }
 
 fn part(bytes: &[u8], offset: u64, size: u64) -> &[u8]

@@ -17,10 +17,10 @@ bound_by_place-requires c =
 
 pub invariant_of-result : goal.invariant_of-result
 invariant_of-result c =
-    let is = IsImage-from_rules c.args.bytes c.args.segments c.args.dynamic.relocations c.args.dynamic.imports c.requires.headers c.requires.rules c.requires.segments c.requires.relocations c.requires.imports in
-    ( is
-    , subst (λ (rs : List Relocation). IsIndex c.in_ok-places.places rs) c.as_slice-relocations.ensures c.in_ok-places.ensures
-    , subst (λ (rs : List Relocation). IsIndex c.in_ok-bindings.bindings (bound_ones rs)) c.as_slice-relocations.ensures c.in_ok-bindings.ensures
+    let is = IsImage-from_rules c.args.bytes c.args.segments c.args.dynamic.relocations c.args.dynamic.imports c.requires.headers c.requires.rules c.requires.segments c.requires.relocations c.requires.imports in (
+      is,
+      subst (λ (rs : List Relocation). IsIndex c.in_ok-places.places rs) c.as_slice-relocations.ensures c.in_ok-places.ensures,
+      subst (λ (rs : List Relocation). IsIndex c.in_ok-bindings.bindings (bound_ones rs)) c.as_slice-relocations.ensures c.in_ok-bindings.ensures,
     )
 
 pub returns : goal.returns
