@@ -1,5 +1,5 @@
 -- The first item that passes a test, and relations between the items of a list.
-use Rattle.std.proofs.Common.{◌≡◌, ℕ, suc, ◌<◌, ◌&&◌, ◌||◌, ◌++◌, Bool, true, false, not, cond, List, [], ◌∷◌, map, take, drop, drop-cons, length, get_or, Option, Some, None, is_some, option_map, refl, sym, ap, ◌∙◌, subst, append_assoc}
+use Rattle.std.proofs.Common.{◌≡◌, ℕ, suc, ◌<◌, ◌&&◌, ◌||◌, ◌++◌, Bool, true, false, cond, List, [], ◌∷◌, map, take, drop, drop-cons, length, get_or, Option, Some, None, is_some, refl, sym, ap, ◌∙◌, subst, append_assoc}
 use Rattle.std.specs.List.{find, filter, list_any, AllByRecursion}
 use Rattle.std.proofs.lemmas.Bool.{false≢true}
 use Rattle.std.proofs.lemmas.List.{take-append-drop}

@@ -1,20 +1,19 @@
 -- Relocations by their places, and what the rules on them give.
-use Rattle.std.proofs.Common.{◌≡◌, ◌≢◌, ℕ, ◌+◌, ◌<◌, ◌≤◌, ◌==◌, ◌++◌, ◌&&◌, ◌||◌, append_assoc, ◌⊎◌, inl, inr, nat_lt, Bool, true, false, cond, List, [], ◌∷◌, length, take, drop, get_or, Option, Some, None, is_some, option_map, refl, sym, ap, ◌∙◌, subst, suc, arith}
-use Rattle.std.specs.List.{find, filter, list_any, AllByRecursion}
+use Rattle.std.proofs.Common.{◌≡◌, ◌≢◌, ℕ, ◌<◌, ◌==◌, ◌++◌, ◌||◌, append_assoc, inl, inr, Bool, true, false, cond, List, [], ◌∷◌, length, take, drop, get_or, Option, Some, None, option_map, refl, sym, ap, ◌∙◌, subst, suc, arith}
+use Rattle.std.specs.List.{find, list_any, AllByRecursion}
 use Rattle.std.specs.Option.{IsSome, option_or}
 use Rattle.std.specs.BTreeMap.{BTreeMap, get}
 use Rattle.std.specs.Ordering.{nat_cmp}
 use Rattle.std.proofs.lemmas.Bool.{false≢true}
 use Rattle.std.proofs.lemmas.Bool.Decides.{eqb_tells, nat_tests}
 use Rattle.std.proofs.lemmas.List.Folds.{find-append}
-use Rattle.std.proofs.lemmas.List.{take_more}
 use Rattle.vw_dynamic.specs.declared.dynamic.Relocation.{Relocation}
 use Rattle.vw_dynamic.specs.declared.dynamic.RelKind.{RelKind}
-use Rattle.vw_dynamic.specs.declared.dynamic.RelKind.TheVariants.{Based, Bound}
+use Rattle.vw_dynamic.specs.declared.dynamic.RelKind.TheVariants.{Based}
 use Rattle.vw_image.specs.Image.{shares, touches}
-use Rattle.vw_image.specs.Index.{kind_at, is_bound_kind, bound_ones, IsIndex}
-use Rattle.vw_image.specs.Bounds.{Pairwise, AreSeparate, AllSeparate}
-use Rattle.vw_image.proofs.Lists.{not_true, find-ruled_out, Pairwise-before, All-filter, split_at, or_true}
+use Rattle.vw_image.specs.Index.{kind_at, IsIndex}
+use Rattle.vw_image.specs.Bounds.{AreSeparate, AllSeparate}
+use Rattle.vw_image.proofs.Lists.{not_true, find-ruled_out, Pairwise-before, split_at, or_true}
 
 abbrev pub blank : Relocation
 blank = record { place = 0; kind = Based 0; at = 0 }

@@ -1,31 +1,29 @@
 -- What rules 15 to 26 give of the relocations, and all of them of an image.
-use Rattle.std.proofs.Common.{◌≡◌, ℕ, ◌+◌, ◌<◌, ◌≤◌, ◌==◌, ◌++◌, ◌&&◌, ◌||◌, Bool, true, false, not, cond, List, [], ◌∷◌, map, length, fold, Option, Some, None, option_map, unwrap_or, refl, sym, ap, ◌∙◌, subst, arith, length-append}
+use Rattle.std.proofs.Common.{◌≡◌, ℕ, ◌+◌, ◌<◌, ◌≤◌, ◌++◌, ◌&&◌, ◌||◌, Bool, true, false, not, cond, List, [], ◌∷◌, length, fold, Option, Some, None, option_map, unwrap_or, refl, sym, ap, subst, arith, length-append}
 use Rattle.std.proofs.lemmas.Bool.{false≢true}
-use Rattle.std.specs.List.{find, filter, filter_map, cons_option, list_any, position, AllByRecursion}
+use Rattle.std.specs.List.{find, filter_map, cons_option, list_any, position, AllByRecursion}
 use Rattle.std.specs.Option.{IsSome, option_map_or}
 use Rattle.std.specs.Str.{bytes_eq}
-use Rattle.std.proofs.lemmas.Bool.Decides.{nat_tests}
 use Rattle.std.proofs.lemmas.List.Folds.{list_any-append}
 use Rattle.std.proofs.lemmas.List.Quantifiers.{position-Some}
 use Rattle.vw_bits.specs.Headers.{segments_of, dynamics_of}
 use Rattle.vw_bits.specs.HeaderRules.{header_fault}
-use Rattle.vw_bits.specs.Rules.{lowest_broken, with_earlier}
+use Rattle.vw_bits.specs.Rules.{lowest_broken}
 use Rattle.vw_bits.specs.declared.records.Segment.{Segment}
 use Rattle.vw_bits.specs.declared.records.DynHeader.{DynHeader}
 use Rattle.vw_bits.proofs.RuleLemmas.{lowest-each}
 use Rattle.vw_dynamic.specs.declared.relas.Rela.{Rela}
-use Rattle.vw_dynamic.specs.declared.directory.Directory.{Directory}
 use Rattle.vw_dynamic.specs.declared.dynamic.Relocation.{Relocation}
 use Rattle.vw_dynamic.specs.declared.dynamic.RelKind.{RelKind}
 use Rattle.vw_dynamic.specs.declared.dynamic.RelKind.TheVariants.{Based, Bound}
 use Rattle.vw_dynamic.specs.Directory.{value_of, directory_of, relocation_offsets}
 use Rattle.vw_dynamic.specs.Names.{with_name, distinct}
 use Rattle.vw_dynamic.specs.Relas.{relas_of, rela_offset, is_none_kind, is_data, is_misplaced, share_byte, first_overlap}
-use Rattle.vw_dynamic.specs.Targets.{strings_of, import_of, imports_of, kind_of, relocation_of, relocations_of}
+use Rattle.vw_dynamic.specs.Targets.{import_of, imports_of, kind_of, relocation_of, relocations_of}
 use Rattle.vw_dynamic.specs.Dynamic.{section_rules, entry_rules, rela_rules, dynamic_rules, dynamic_fault, entries_of, file_imports, file_relocations}
 use Rattle.vw_image.specs.Bounds.{Pairwise, AreSeparate, AllSeparate, AreBounded, AllApart}
 use Rattle.vw_image.specs.Image.{Contents, image_of, IsImage}
-use Rattle.vw_image.proofs.Lists.{not_true, or_left, or_right, find_none-All, All-weaker, All-map_filter, Pairwise-map_filter, Pairwise-from_earlier}
+use Rattle.vw_image.proofs.Lists.{or_left, or_right, find_none-All, All-weaker, All-map_filter, Pairwise-map_filter, Pairwise-from_earlier}
 use Rattle.vw_image.proofs.Segments.{AreBounded-from_rules, AllApart-from_rules}
 
 -- the relocations of a file with these dynamic sections, in their order

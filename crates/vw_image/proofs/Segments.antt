@@ -1,21 +1,19 @@
 -- What the rules on headers give of the segments, and where a byte is.
-use Rattle.std.proofs.Common.{◌≡◌, ℕ, ◌+◌, ◌-◌, ◌*◌, ◌<◌, ◌≤◌, ◌^◌, ◌++◌, ◌&&◌, ◌||◌, [], ◌∷◌, Bool, true, false, not, cond, nat_le, List, length, Option, Some, None, option_map, refl, sym, ap, ◌∙◌, arith}
-use Rattle.std.specs.List.{find, list_any, AllByRecursion}
-use Rattle.std.specs.Option.{option_map_or}
+use Rattle.std.proofs.Common.{◌≡◌, ℕ, ◌+◌, ◌<◌, ◌≤◌, ◌++◌, ◌||◌, [], ◌∷◌, Bool, true, false, not, cond, nat_le, List, length, Option, Some, None, option_map, refl, sym, ◌∙◌, arith}
+use Rattle.std.specs.List.{find, list_any}
 use Rattle.std.proofs.lemmas.Bool.{false≢true}
 use Rattle.std.proofs.lemmas.Bool.Decides.{nat_tests}
 use Rattle.std.proofs.lemmas.List.Folds.{list_any-append}
 use Rattle.vw_bits.specs.Headers.{segments_of}
-use Rattle.vw_bits.specs.Places.{is_among, in_memory, in_file_part}
-use Rattle.vw_bits.specs.Rules.{with_earlier}
+use Rattle.vw_bits.specs.Places.{is_among, in_memory}
 use Rattle.vw_bits.specs.HeaderRules.{header_fault, header_rules, segment_rules, segment_fits, share_page, segments_clash, first_clash, header_of, has_no_segment, section_table_rule, symbol_section_rule}
 use Rattle.vw_bits.specs.declared.records.Segment.{Segment}
 use Rattle.vw_bits.proofs.RuleLemmas.{lowest-each}
-use Rattle.vw_image.specs.Bounds.{IsBounded, AreBounded, Pairwise, AreApart, AllApart}
+use Rattle.vw_image.specs.Bounds.{IsBounded, AreBounded, AreApart, AllApart}
 use Rattle.vw_image.specs.Image.{segment_byte, memory_byte}
 use Rattle.vw_bits.specs.Fields.{load}
 use Rattle.vw_image.proofs.Numbers.{load-same}
-use Rattle.vw_image.proofs.Lists.{not_true, or_left, or_right, find_none-All, find-passes, find-unique, All-weaker, Pairwise-from_earlier}
+use Rattle.vw_image.proofs.Lists.{not_true, or_left, or_right, find_none-All, find-unique, All-weaker, Pairwise-from_earlier}
 
 unfound : (found : Option Segment) → header_of found ≡ None → found ≡ None
 unfound None none = refl

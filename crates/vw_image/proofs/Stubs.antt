@@ -1,16 +1,15 @@
 -- The bytes of a stub, from the segment in whose memory they are.
-use Rattle.std.proofs.Common.{◌≡◌, ℕ, ◌+◌, ◌<◌, ◌≤◌, ◌%◌, ◌^◌, ◌&&◌, ◌==◌, Bool, true, false, cond, List, [], ◌∷◌, length, Option, Some, None, is_some, option_map, option_and_then, refl, sym, ap, ◌∙◌, suc, arith}
-use Rattle.std.specs.List.{find, list_any}
+use Rattle.std.proofs.Common.{◌≡◌, ℕ, ◌+◌, ◌<◌, ◌≤◌, ◌%◌, ◌^◌, ◌&&◌, Bool, true, false, cond, List, [], ◌∷◌, length, Option, Some, None, is_some, option_map, refl, sym, ap, ◌∙◌, suc, arith}
+use Rattle.std.specs.List.{find}
 use Rattle.vw_bits.specs.Fields.{load}
 use Rattle.vw_bits.specs.Words.{sign_extended}
 use Rattle.vw_bits.specs.Headers.{is_executable}
 use Rattle.vw_bits.specs.Places.{in_memory}
 use Rattle.vw_bits.specs.declared.records.Segment.{Segment}
-use Rattle.vw_image.specs.declared.stub.Stub.{Stub}
 use Rattle.vw_image.specs.Image.{Contents, segment_byte, memory_byte}
 use Rattle.vw_image.specs.Bounds.{AllApart}
 use Rattle.vw_image.specs.Words.{word_at}
-use Rattle.vw_image.specs.Stubs.{opcodes, spells, in_executable, stands_at, slot_behind, slot_at, stub_to, stub_at}
+use Rattle.vw_image.specs.Stubs.{spells, in_executable, stands_at, slot_behind, slot_at, stub_to, stub_at}
 use Rattle.vw_image.proofs.Lists.{find-any, find-passes, and_right}
 use Rattle.vw_image.proofs.Segments.{among, among_is, memory_byte-in, in_memory-one, load-in}
 

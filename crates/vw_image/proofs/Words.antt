@@ -1,31 +1,18 @@
 -- What words, ranges and stubs are, from what an index finds.
-use Rattle.std.proofs.Common.{◌≡◌, ◌≢◌, ℕ, ◌+◌, ◌-◌, ◌*◌, ◌/◌, ◌%◌, ◌^◌, ◌<◌, ◌≤◌, ◌==◌, ◌&&◌, ◌||◌, nat_lt, Bool, true, false, not, cond, List, [], ◌∷◌, length, take, drop, get_or, slice_index, Option, Some, None, is_some, option_map, refl, sym, ap, ◌∙◌, subst, arith}
-use Rattle.std.specs.List.{find, filter, list_any, AllByRecursion}
-use Rattle.std.specs.Option.{IsSome, option_map_or}
-use Rattle.std.specs.BTreeMap.{BTreeMap, get}
-use Rattle.std.specs.Ordering.{nat_cmp}
-use Rattle.std.proofs.lemmas.Bool.{false≢true}
-use Rattle.std.proofs.lemmas.Bool.Decides.{eqb_tells, nat_tests}
+use Rattle.std.proofs.Common.{◌≡◌, ◌≢◌, ℕ, ◌==◌, Bool, true, false, cond, List, length, Option, Some, None, option_map, refl, ap, subst, arith}
+use Rattle.std.specs.List.{find, list_any}
+use Rattle.std.proofs.lemmas.Bool.Decides.{nat_tests}
 use Rattle.vw_bits.specs.Fields.{load}
-use Rattle.vw_bits.specs.Headers.{is_readable, is_executable}
-use Rattle.vw_bits.specs.Places.{is_among, in_memory, in_file_part, file_offset}
-use Rattle.vw_bits.specs.declared.records.Segment.{Segment}
-use Rattle.vw_dynamic.specs.Relas.{is_data}
 use Rattle.vw_dynamic.specs.declared.dynamic.Relocation.{Relocation}
 use Rattle.vw_dynamic.specs.declared.dynamic.RelKind.{RelKind}
 use Rattle.vw_dynamic.specs.declared.dynamic.RelKind.TheVariants.{Based as BasedKind, Bound as BoundKind}
-use Rattle.vw_image.specs.declared.word.Word.{Word}
-use Rattle.vw_image.specs.declared.word.Word.TheVariants.{Plain, Based, Bound, Mixed, Outside}
-use Rattle.vw_image.specs.Image.{Contents, IsImage, segment_byte, memory_byte, shares, touches, relocated_word, byte_of, image_byte}
-use Rattle.vw_image.specs.Index.{kind_at, is_bound_kind, bound_ones, IsIndex}
-use Rattle.vw_image.specs.Bounds.{Pairwise, AreSeparate, AllSeparate, AreApart, AllApart, IsBounded, AreBounded}
-use Rattle.vw_image.specs.Words.{in_readable, word_of, unrelocated_word, word_at, readable, bytes_at}
-use Rattle.vw_image.specs.Stubs.{in_executable}
-use Rattle.vw_image.specs.Laws.{IsSize, Gives, image_word, IsNumbered}
-use Rattle.vw_image.proofs.Lists.{not_true, or_left, or_right, or_true, and_left, and_right, find-passes, find-holds, find-unique, find-none, find-ruled_out, find-any, any-from_find, any-filter}
-use Rattle.vw_image.proofs.Numbers.{load-same, load-bytes}
-use Rattle.vw_image.proofs.Segments.{among, among_is, find-segment, memory_byte-in, in_memory-one}
-use Rattle.vw_image.proofs.Rules.{IsNumberedKind, image-bounded, image-apart, image-separate, image-placed, image-numbered}
+use Rattle.vw_image.specs.declared.word.Word.TheVariants.{Plain, Mixed, Outside}
+use Rattle.vw_image.specs.Image.{Contents, IsImage, memory_byte, touches}
+use Rattle.vw_image.specs.Index.{kind_at}
+use Rattle.vw_image.specs.Words.{in_readable, word_of, word_at}
+use Rattle.vw_image.specs.Laws.{IsNumbered}
+use Rattle.vw_image.proofs.Lists.{find-holds}
+use Rattle.vw_image.proofs.Rules.{IsNumberedKind, image-numbered}
 
 -- the relocation of just these bytes, where there is one
 abbrev pub exact : Contents → ℕ → ℕ → Option RelKind

@@ -1,13 +1,12 @@
-use Rattle.std.proofs.Common.{◌≡◌, ◌≢◌, ℕ, ◌+◌, ◌++◌, [], ◌∷◌, List, Bool, true, false, cond, take, get_or, refl, sym, ap, rules, arith}
-use Rattle.std.specs.List.{filter}
-use Rattle.std.specs.BTreeMap.{get, is_at}
+use Rattle.std.proofs.Common.{◌≡◌, ◌≢◌, ℕ, ◌+◌, ◌++◌, [], ◌∷◌, List, true, false, take, get_or, refl, ap, arith}
+use Rattle.std.specs.BTreeMap.{is_at}
 use Rattle.std.specs.Ordering.{nat_cmp}
 use Rattle.std.proofs.lemmas.List.{take_more, append-nil}
 use Rattle.std.proofs.lemmas.List.Elements.{filter-append}
 use Rattle.std.proofs.lemmas.Bool.Decides.{nat_tests}
 use Rattle.vw_dynamic.specs.declared.dynamic.Relocation.{Relocation}
 use Rattle.vw_image.specs.Bounds.{AreSeparate}
-use Rattle.vw_image.specs.Index.{kind_at, is_bound_kind, bound_ones, IsIndex}
+use Rattle.vw_image.specs.Index.{kind_at, is_bound_kind, bound_ones}
 use Rattle.vw_image.proofs.Lists.{All-filter}
 use Rattle.vw_image.proofs.Relocations.{blank, kind_at-before, IsIndex-more, front_separate}
 use Rattle.vw_image.proofs.index.bound_by_place.Goals as goal

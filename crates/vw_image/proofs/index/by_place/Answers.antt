@@ -1,10 +1,9 @@
-use Rattle.std.proofs.Common.{◌≡◌, ◌≢◌, ℕ, ◌+◌, ◌++◌, [], ◌∷◌, List, false, take, get_or, refl, sym, rules, arith}
-use Rattle.std.specs.BTreeMap.{get, is_at}
+use Rattle.std.proofs.Common.{◌≡◌, ◌≢◌, ℕ, ◌+◌, ◌++◌, [], ◌∷◌, false, take, get_or, refl, arith}
+use Rattle.std.specs.BTreeMap.{is_at}
 use Rattle.std.specs.Ordering.{nat_cmp}
 use Rattle.std.proofs.lemmas.List.{take_more}
 use Rattle.std.proofs.lemmas.Bool.Decides.{nat_tests}
-use Rattle.vw_dynamic.specs.declared.dynamic.Relocation.{Relocation}
-use Rattle.vw_image.specs.Index.{kind_at, IsIndex}
+use Rattle.vw_image.specs.Index.{kind_at}
 use Rattle.vw_image.proofs.Relocations.{blank, kind_at-before, IsIndex-more, front_separate}
 use Rattle.vw_image.proofs.index.by_place.Goals as goal
 

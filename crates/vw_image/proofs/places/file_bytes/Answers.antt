@@ -1,4 +1,4 @@
-use Rattle.std.proofs.Common.{◌≡◌, ℕ, ◌+◌, ◌-◌, ◌≤◌, ◌<◌, List, length, take, drop, Option, Some, None, option_map, option_copied, refl, sym, ap, ◌∙◌, arith, rules}
+use Rattle.std.proofs.Common.{◌≡◌, ℕ, ◌+◌, ◌-◌, ◌≤◌, ◌<◌, List, length, take, drop, Some, None, option_map, option_copied, refl, sym, ap, ◌∙◌, arith, rules}
 use Rattle.std.specs.List.{find}
 use Rattle.vw_bits.specs.Places.{in_file_part, file_offset}
 use Rattle.vw_bits.specs.declared.records.Segment.{Segment}

@@ -1,10 +1,10 @@
-use Rattle.std.proofs.Common.{◌≡◌, ℕ, ◌+◌, ◌<◌, ◌&&◌, Bool, true, false, cond, List, length, Option, Some, None, is_some, refl, sym, ap, ◌∙◌}
-use Rattle.std.specs.List.{find, list_any}
+use Rattle.std.proofs.Common.{◌≡◌, ℕ, ◌&&◌, Bool, true, false, cond, List, length, Some, None, is_some, refl, sym, ap, ◌∙◌}
+use Rattle.std.specs.List.{find}
 use Rattle.vw_bits.specs.Fields.{load}
 use Rattle.vw_bits.specs.Headers.{is_readable}
 use Rattle.vw_bits.specs.Places.{in_memory}
 use Rattle.vw_bits.specs.declared.records.Segment.{Segment}
-use Rattle.vw_image.specs.Bounds.{IsBounded, AreBounded, AllApart}
+use Rattle.vw_image.specs.Bounds.{IsBounded, AllApart}
 use Rattle.vw_image.specs.Image.{segment_byte, memory_byte}
 use Rattle.vw_image.specs.Words.{in_readable}
 use Rattle.vw_image.proofs.Lists.{find-any, find-holds, find-passes, and_right}

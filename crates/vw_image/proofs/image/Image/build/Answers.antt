@@ -1,4 +1,4 @@
-use Rattle.std.proofs.Common.{◌≡◌, List, sym, ap, ◌∙◌, subst}
+use Rattle.std.proofs.Common.{List, sym, subst}
 use Rattle.vw_dynamic.specs.declared.dynamic.Relocation.{Relocation}
 use Rattle.vw_image.specs.Bounds.{AllSeparate}
 use Rattle.vw_image.specs.Index.{IsIndex, bound_ones}

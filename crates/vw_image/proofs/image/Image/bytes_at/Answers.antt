@@ -1,4 +1,4 @@
-use Rattle.std.proofs.Common.{◌≡◌, ℕ, List, take, drop, length, Option, option_map, ap, ◌∙◌}
+use Rattle.std.proofs.Common.{◌≡◌, ℕ, List, take, drop, Option, option_map, ap, ◌∙◌}
 use Rattle.vw_bits.specs.Places.{file_offset}
 use Rattle.vw_image.specs.Image.{Contents}
 use Rattle.vw_image.specs.Words.{bytes_at}

@@ -1,4 +1,4 @@
-use Rattle.std.proofs.Common.{◌≡◌, ℕ, sym, ap, ◌∙◌}
+use Rattle.std.proofs.Common.{sym, ap, ◌∙◌}
 use Rattle.vw_image.specs.declared.word.Word.{Word}
 use Rattle.vw_image.specs.Image.{Contents}
 use Rattle.vw_image.specs.Words.{word_at}
