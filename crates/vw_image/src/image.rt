@@ -46,7 +46,8 @@ impl Model for Image {
 }
 
 impl Image {
-    /// The image of a file that meets rules 1 to 26, of its segments and of what its dynamic section gives.
+    /// The image of a file that meets rules 1 to 26, from its bytes, its segments and what its dynamic section
+    /// gives. OutOfMemory where the allocator refuses a request.
     pub fn build(
         alloc: Global,
         bytes: List<u8>,
