@@ -43,7 +43,7 @@ EntryFits parts (tag, Some number) = number < length parts.functions
 -- a table
 pub record TableFits (parts : Parts) (entries : List (ℕ × Option ℕ)) : Type 0 where
   pub few : length entries ≤ 65536
-  pub entries : All (EntryFits parts) entries
+  pub each : All (EntryFits parts) entries
 
 -- a bind: its eight bytes lie in the data, and its import is there
 pub record BindFits (parts : Parts) (bind : ℕ × ℕ) : Type 0 where

@@ -41,7 +41,7 @@ is_within at size k = nat_le at k && nat_lt k (at + size)
 -- there is none
 abbrev pub byte_with : {X : Type 0} → (ℕ × X → List ℕ) → ℕ → List (ℕ × X) → List ℕ → ℕ → ℕ
 byte_with field size items bytes k =
-    option_map_or (λ item. slice_index (field item) (k - item.0)) (slice_index bytes k) (find (λ item. is_within item.0 size k) items)
+    option_map_or (λ item. slice_index (field item) (k - item.0)) (find (λ item. is_within item.0 size k) items) (slice_index bytes k)
 
 -- all bytes then
 unfoldable pub with_fields : {X : Type 0} → (ℕ × X → List ℕ) → ℕ → List (ℕ × X) → List ℕ → List ℕ

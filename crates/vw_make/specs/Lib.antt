@@ -3,6 +3,7 @@ pub mod Records
 pub mod Layout
 pub mod Small
 pub mod Bounds
+pub mod Plan
 pub mod Symbols
 pub mod Relocations
 pub mod Text

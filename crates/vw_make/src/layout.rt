@@ -6,7 +6,7 @@ use crate::buffer::round_up;
 use crate::sizes::Sizes;
 
 /// Where the parts of a module begin: offsets in the file, which are addresses too.
-#[derive(Clone, Copy, Debug, PartialEq, Eq)]
+#[derive(Clone, Copy)]
 pub struct Layout {
     /// The string table of the dynamic symbols.
     pub dynamic_strings: u64,
@@ -37,7 +37,7 @@ pub struct Layout {
 }
 
 /// Where the dynamic symbols begin, behind the ELF header and three program headers.
-const DYNAMIC_SYMBOLS: u64 = 232;
+pub const DYNAMIC_SYMBOLS: u64 = 232;
 
 /// The places of parts with these sizes.
 pub fn lay_out(size: &Sizes) -> Layout

@@ -5,7 +5,15 @@
 mod buffer;
 mod layout;
 mod parts;
+mod plan;
 mod records;
+mod relocations;
 mod sizes;
+mod symbols;
+mod tables;
+mod text;
+mod write;
 
 pub use parts::{Func, Parts, Target};
+pub use write::write_module;
+

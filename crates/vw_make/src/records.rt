@@ -22,7 +22,7 @@ pub fn put_file_header(out: &mut Vec<u8>, sections: u64) -> Result<(), OutOfMemo
 }
 
 /// A program header of bytes that stand at one place in the file and in memory.
-#[derive(Clone, Copy, Debug, PartialEq, Eq)]
+#[derive(Clone, Copy)]
 pub struct ProgramHeader {
     /// `p_type`.
     pub kind: u32,
@@ -51,7 +51,7 @@ pub fn put_program_header(out: &mut Vec<u8>, header: &ProgramHeader) -> Result<(
 }
 
 /// An entry of a symbol table.
-#[derive(Clone, Copy, Debug, PartialEq, Eq)]
+#[derive(Clone, Copy)]
 pub struct SymbolEntry {
     /// `st_name`: where the name begins in the string table.
     pub name: u32,
@@ -84,7 +84,7 @@ pub fn put_null_symbol(out: &mut Vec<u8>) -> Result<(), OutOfMemory>
 }
 
 /// An entry of a relocation table with addends.
-#[derive(Clone, Copy, Debug, PartialEq, Eq)]
+#[derive(Clone, Copy)]
 pub struct RelaEntry {
     /// `r_offset`: the address of the eight bytes.
     pub offset: u64,
@@ -115,7 +115,7 @@ pub fn put_dynamic_entry(out: &mut Vec<u8>, tag: u64, value: u64) -> Result<(), 
 }
 
 /// A section header.
-#[derive(Clone, Copy, Debug, PartialEq, Eq)]
+#[derive(Clone, Copy)]
 pub struct SectionHeader {
     /// `sh_type`.
     pub kind: u32,
