@@ -1,7 +1,7 @@
 -- The records of an ELF64 file with ELFDATA2LSB, field by field (System V gABI, "ELF Header", "Program
 -- Header", "Symbol Table", "Relocation", "Dynamic Section", "Section Header"; psABI for x86-64,
 -- "Relocation Types"). An address in this file is the offset of the same byte.
-use Rattle.std.specs.Prelude.{ℕ, List, ◌∷◌, ◌++◌}
+use Rattle.std.specs.Prelude.{ℕ, List, [], ◌∷◌, ◌++◌}
 use Rattle.byteorder.specs.Endian.{little_bytes}
 use Rattle.vw_make.specs.Bytes.{zeros}
 
@@ -32,7 +32,7 @@ program_header type' flags at size align =
 -- the 24 bytes of a symbol: st_name, st_info, st_other, st_shndx, st_value, st_size
 abbrev pub symbol : ℕ → ℕ → ℕ → ℕ → ℕ → List ℕ
 symbol name info section value size =
-    little_bytes 4 name ++ little_bytes 1 info ++ little_bytes 1 0 ++ little_bytes 2 section ++ little_bytes 8 value ++ little_bytes 8 size
+    little_bytes 4 name ++ (info ∷ 0 ∷ []) ++ little_bytes 2 section ++ little_bytes 8 value ++ little_bytes 8 size
 
 -- the 24 bytes of a relocation with addend, an Elf64_Rela: r_offset, r_info (the type in its low four
 -- bytes, the symbol's index in its high four), r_addend

@@ -1,0 +1,24 @@
+-- Pieces that were appended one by one.
+use Rattle.std.proofs.Common.{◌≡◌, ◌∙◌, ℕ, zero, suc, ◌+◌, ◌<◌, List, [], ◌∷◌, ◌++◌, length, take, get_or, append_assoc, append-nil, add-one, add-zero, refl, sym, ap, arith}
+use Rattle.vw_make.specs.Bytes.{counted, numbered}
+
+numbered_suc : {X : Type 0} (f : ℕ → X → List ℕ) (n : ℕ) (xs : List X) (i : ℕ) (d : X) → i < length xs → numbered f n (take (suc i) xs) ≡ numbered f n (take i xs) ++ f (n + i) (get_or xs i d)
+numbered_suc f n [] i d inside = absurd (omega arith)
+numbered_suc f n (x ∷ xs) zero d inside = append-nil (f n x) ∙ ap (λ (k : ℕ). f k x) (let e : n ≡ n + 0 = omega arith in e)
+numbered_suc f n (x ∷ xs) (suc i) d inside =
+    let e : (n + 1) + i ≡ n + suc i = omega arith in
+    ap (λ (rest : List ℕ). f n x ++ rest) (numbered_suc f (n + 1) xs i d (omega arith))
+    ∙ (sym (append_assoc (f n x) (numbered f (n + 1) (take i xs)) (f ((n + 1) + i) (get_or xs i d)))
+    ∙ ap (λ (k : ℕ). (f n x ++ numbered f (n + 1) (take i xs)) ++ f k (get_or xs i d)) e)
+
+-- one more item, counted from 0
+pub numbered_more : {X : Type 0} (f : ℕ → X → List ℕ) (xs : List X) (i : ℕ) (d : X) → i < length xs → numbered f 0 (take (i + 1) xs) ≡ numbered f 0 (take i xs) ++ f i (get_or xs i d)
+numbered_more f xs i d inside =
+    rw add-one (numbered_suc f 0 xs i d inside ∙ ap (λ (k : ℕ). numbered f 0 (take i xs) ++ f k (get_or xs i d)) (let e : 0 + i ≡ i = omega arith in e))
+
+pub counted_more : (f : ℕ → List ℕ) (i : ℕ) → counted f (i + 1) ≡ counted f i ++ f i
+counted_more f i = rw add-one refl
+
+-- a list of bytes to which two pieces were appended
+pub appended : (old now new done piece next : List ℕ) → now ≡ old ++ done → new ≡ now ++ piece → next ≡ done ++ piece → new ≡ old ++ next
+appended old now new done piece next e f g = f ∙ (ap (λ (bytes : List ℕ). bytes ++ piece) e ∙ (append_assoc old done piece ∙ ap (λ (bytes : List ℕ). old ++ bytes) (sym g)))
