@@ -22,3 +22,7 @@ counted_more f i = rw add-one refl
 -- a list of bytes to which two pieces were appended
 pub appended : (old now new done piece next : List ℕ) → now ≡ old ++ done → new ≡ now ++ piece → next ≡ done ++ piece → new ≡ old ++ next
 appended old now new done piece next e f g = f ∙ (ap (λ (bytes : List ℕ). bytes ++ piece) e ∙ (append_assoc old done piece ∙ ap (λ (bytes : List ℕ). old ++ bytes) (sym g)))
+
+pub joined_eight : (old one two three four five six seven new a b c d e f g h : List ℕ) → one ≡ old ++ a → two ≡ one ++ b → three ≡ two ++ c → four ≡ three ++ d → five ≡ four ++ e → six ≡ five ++ f → seven ≡ six ++ g → new ≡ seven ++ h
+    → new ≡ old ++ (a ++ (b ++ (c ++ (d ++ (e ++ (f ++ (g ++ h)))))))
+joined_eight old one two three four five six seven new a b c d e f g h p1 p2 p3 p4 p5 p6 p7 p8 = rw (p8, p7, p6, p5, p4, p3, p2, p1) (simp append_assoc)

@@ -16,4 +16,3 @@ mod write;
 
 pub use parts::{Func, Parts, Target};
 pub use write::write_module;
-

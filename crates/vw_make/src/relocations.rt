@@ -59,9 +59,10 @@ fn put_pair_relocations(out: &mut Vec<u8>, plan: &Plan) -> Result<(), OutOfMemor
     requires { IsPlan plan.now }
     ensures { OnOk result (out.new.items ≡ out.old.items ++ pair_relocations plan.now.parts.now.tables plan.now.layout) }
 {
+    let tables = plan.parts.tables.as_slice();
     let mut pair = plan.layout.lucet_tables;
     let mut table = plan.layout.tables;
-    for entries in plan.parts.tables.as_slice() {
+    for entries in tables {
         put_relative(out, pair, table)?;
         pair += 16;
         table += 16 * entries.as_slice().len() as u64;
@@ -73,8 +74,9 @@ fn put_entry_relocations(out: &mut Vec<u8>, plan: &Plan) -> Result<(), OutOfMemo
     requires { IsPlan plan.now }
     ensures { OnOk result (out.new.items ≡ out.old.items ++ entry_relocations plan.now.parts.now.functions plan.now.parts.now.tables plan.now.layout) }
 {
+    let tables = plan.parts.tables.as_slice();
     let mut table = plan.layout.tables;
-    for entries in plan.parts.tables.as_slice() {
+    for entries in tables {
         put_table_relocations(out, plan, table, entries.as_slice())?;
         table += 16 * entries.as_slice().len() as u64;
     }
@@ -123,7 +125,8 @@ fn put_bind_relocations(out: &mut Vec<u8>, plan: &Plan) -> Result<(), OutOfMemor
     requires { IsPlan plan.now }
     ensures { OnOk result (out.new.items ≡ out.old.items ++ bind_relocations plan.now.parts.now.binds plan.now.layout) }
 {
-    for bind in plan.parts.binds.as_slice() {
+    let binds = plan.parts.binds.as_slice();
+    for bind in binds {
         let entry = RelaEntry {
             offset: plan.layout.content + bind.0 as u64,
             kind: WORD,

@@ -97,8 +97,9 @@ fn put_function_symbols(out: &mut Vec<u8>, plan: &Plan) -> Result<u32, OutOfMemo
     ensures next { IfOk result (λ next. next ≡ strings_size (function_names plan.now.parts.now.functions)) }
     ensures bytes { OnOk result (out.new.items ≡ out.old.items ++ function_symbols plan.now.parts.now.functions plan.now.layout) }
 {
+    let functions = plan.parts.functions.as_slice();
     let mut name: u32 = 1;
-    for (number, func) in plan.parts.functions.as_slice().iter().enumerate() {
+    for (number, func) in functions.iter().enumerate() {
         let entry = SymbolEntry {
             name,
             info: GLOBAL_FUNC,

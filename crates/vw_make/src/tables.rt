@@ -1,13 +1,15 @@
 ghost use Rattle.std.specs.Prelude.{◌≡◌, ◌++◌, OnOk};
 ghost use Rattle.vw_make.specs.Bounds.{MeetsBounds};
+ghost use Rattle.vw_make.specs.Plan.{IsPlan};
 ghost use Rattle.vw_make.specs.Tables.{slots, pairs, entry, table, tables, padded_content, dynamic_section};
 
-use crate::buffer::{pad, put, put_u64, write_at};
+use crate::buffer::{pad, put, put_u64, put_zeros, write_at};
 use crate::layout::{DYNAMIC_SYMBOLS, Layout};
 use crate::parts::Parts;
+use crate::plan::Plan;
 use crate::records::put_dynamic_entry;
 use crate::sizes::Sizes;
-use vw_bits::{List, OutOfMemory, Text};
+use vw_bits::{List, OutOfMemory};
 
 /// The bytes of the dynamic section: eight entries of 16.
 pub const DYNAMIC_SIZE: u64 = 128;
@@ -29,13 +31,11 @@ const DT_STRSZ: u64 = 10;
 const DT_SYMENT: u64 = 11;
 
 /// Appends the slots of the imports.
-pub fn put_slots(out: &mut Vec<u8>, imports: &[Text]) -> Result<(), OutOfMemory>
-    ensures { OnOk result (out.new.items ≡ out.old.items ++ slots imports.now) }
+pub fn put_slots(out: &mut Vec<u8>, plan: &Plan) -> Result<(), OutOfMemory>
+    requires { IsPlan plan.now }
+    ensures { OnOk result (out.new.items ≡ out.old.items ++ slots plan.now.parts.now.imports) }
 {
-    for _ in imports {
-        put_u64(out, 0)?;
-    }
-    Ok(())
+    put_zeros(out, 8 * plan.sizes.imports as usize)
 }
 
 /// Appends `lucet_tables`.
@@ -83,8 +83,10 @@ pub fn put_content(out: &mut Vec<u8>, parts: &Parts) -> Result<(), OutOfMemory>
     requires { MeetsBounds parts.now }
     ensures { OnOk result (out.new.items ≡ out.old.items ++ padded_content parts.now) }
 {
-    let mut content = Vec::from_slice(*out.allocator(), parts.content.as_slice())?;
-    for bind in parts.binds.as_slice() {
+    let unbound = parts.content.as_slice();
+    let binds = parts.binds.as_slice();
+    let mut content = Vec::from_slice(*out.allocator(), unbound)?;
+    for bind in binds {
         write_at(&mut content, bind.0 as usize, &[0; 8]);
     }
     pad(&mut content, 8, 0)?;

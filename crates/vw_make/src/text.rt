@@ -27,7 +27,8 @@ fn put_functions(out: &mut Vec<u8>, plan: &Plan) -> Result<(), OutOfMemory>
     requires { IsPlan plan.now }
     ensures { OnOk result (out.new.items ≡ out.old.items ++ function_texts plan.now.parts.now.functions plan.now.layout) }
 {
-    for (number, func) in plan.parts.functions.as_slice().iter().enumerate() {
+    let functions = plan.parts.functions.as_slice();
+    for (number, func) in functions.iter().enumerate() {
         let at = plan.functions[number];
         let mut code = code_with_fixes(*out.allocator(), plan, func, at)?;
         pad(&mut code, 16, FILLER)?;
@@ -43,8 +44,10 @@ fn code_with_fixes(alloc: Global, plan: &Plan, func: &Func, at: u64) -> Result<V
     requires low { at < 2 ^ 31 }
     ensures { IfOk result (λ code. code.items ≡ fixed_code plan.now.parts.now.functions plan.now.layout at func.now) }
 {
-    let mut code = Vec::from_slice(alloc, func.code.as_slice())?;
-    for fix in func.fixes.as_slice() {
+    let unfixed = func.code.as_slice();
+    let mut code = Vec::from_slice(alloc, unfixed)?;
+    let fixes = func.fixes.as_slice();
+    for fix in fixes {
         let behind = at + fix.0 as u64 + 4;
         let field = distance(target_address(plan, fix.1), behind).to_le_bytes();
         write_at(&mut code, fix.0 as usize, &field);

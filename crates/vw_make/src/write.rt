@@ -67,7 +67,7 @@ fn file_with_dynamic(alloc: Global, plan: &Plan) -> Result<Vec<u8>, OutOfMemory>
 {
     let mut out = file_with_text(alloc, plan)?;
     fill_to(&mut out, plan.layout.slots)?;
-    put_slots(&mut out, plan.parts.imports.as_slice())?;
+    put_slots(&mut out, plan)?;
     put_pairs(&mut out, plan.parts.tables.as_slice())?;
     put_tables(&mut out, plan.parts.tables.as_slice())?;
     put_content(&mut out, plan.parts)?;
