@@ -1,3 +1,4 @@
 pub mod Pieces
 pub mod FieldLemmas
 pub mod Places
+pub mod Steps

@@ -14,14 +14,14 @@ use Rattle.vw_make.specs.Tables.{slots, pairs, tables, padded_content, dynamic_s
 -- The program headers: what is read and executed (PT_LOAD, PF_R and PF_X), from the file's begin to the
 -- text's end; what is read and written (PT_LOAD, PF_R and PF_W), from the slots to the end of the dynamic
 -- section; and the dynamic section (PT_DYNAMIC).
-abbrev pub program_headers : Layout → List ℕ
+unfoldable pub program_headers : Layout → List ℕ
 program_headers layout =
     program_header 1 5 0 layout.text_end 4096
     ++ program_header 1 6 layout.slots (layout.dynamic + 128 - layout.slots) 4096
     ++ program_header 2 6 layout.dynamic 128 8
 
 -- the section headers: a null one, SHT_SYMTAB with the string table of section 2, SHT_STRTAB
-abbrev pub section_headers : Sizes → Layout → List ℕ
+unfoldable pub section_headers : Sizes → Layout → List ℕ
 section_headers size layout =
     section_header 0 0 0 0 0
     ++ section_header 2 layout.symbols size.symbols 2 24
@@ -30,22 +30,22 @@ section_headers size layout =
 -- Each of the following begins with the one before it.
 
 -- up to the strings of the dynamic symbols
-abbrev pub front : Parts → Layout → List ℕ
+unfoldable pub front : Parts → Layout → List ℕ
 front parts layout = file_header layout.sections ++ program_headers layout ++ dynamic_symbols parts.imports ++ string_table parts.imports
 
 -- up to the text's end: what is loaded for reading and executing
-abbrev pub with_text : Parts → Layout → List ℕ
+unfoldable pub with_text : Parts → Layout → List ℕ
 with_text parts layout =
     filled_to layout.text (filled_to layout.relocations (front parts layout) ++ relocations parts layout) ++ text parts layout
 
 -- up to the end of the dynamic section; what stands behind the slots' begin is loaded for reading and writing
-abbrev pub with_dynamic : Parts → Sizes → Layout → List ℕ
+unfoldable pub with_dynamic : Parts → Sizes → Layout → List ℕ
 with_dynamic parts size layout =
     filled_to layout.slots (with_text parts layout)
     ++ slots parts.imports ++ pairs parts.tables ++ tables parts.tables ++ padded_content parts ++ dynamic_section size layout
 
 -- the file with the parts at these places
-abbrev pub file_of : Parts → Sizes → Layout → List ℕ
+unfoldable pub file_of : Parts → Sizes → Layout → List ℕ
 file_of parts size layout =
     filled_to layout.sections (with_dynamic parts size layout ++ symbols parts layout ++ string_table (symbol_names parts))
     ++ section_headers size layout

@@ -31,7 +31,7 @@ entry_relocation functions layout at (tag, None) = []
 entry_relocation functions layout at (tag, Some function) = relative (at + 8) (function_at functions layout function)
 
 -- those of the entries of a table that begins at `at`
-abbrev pub table_relocations : List Func → Layout → ℕ → List (ℕ × Option ℕ) → List ℕ
+unfoldable pub table_relocations : List Func → Layout → ℕ → List (ℕ × Option ℕ) → List ℕ
 table_relocations functions layout at entries =
     numbered (λ number entry. entry_relocation functions layout (at + 16 * number) entry) 0 entries
 
@@ -39,21 +39,21 @@ table_relocations functions layout at entries =
 abbrev pub bind_relocation : Layout → ℕ × ℕ → List ℕ
 bind_relocation layout bind = relocation (layout.content + bind.0) 1 (symbol_index bind.1) 0
 
-abbrev pub slot_relocations : List (List ℕ) → Layout → List ℕ
+unfoldable pub slot_relocations : List (List ℕ) → Layout → List ℕ
 slot_relocations imports layout = counted (slot_relocation layout) (length imports)
 
-abbrev pub pair_relocations : List (List (ℕ × Option ℕ)) → Layout → List ℕ
+unfoldable pub pair_relocations : List (List (ℕ × Option ℕ)) → Layout → List ℕ
 pair_relocations tables layout = counted (pair_relocation tables layout) (length tables)
 
-abbrev pub entry_relocations : List Func → List (List (ℕ × Option ℕ)) → Layout → List ℕ
+unfoldable pub entry_relocations : List Func → List (List (ℕ × Option ℕ)) → Layout → List ℕ
 entry_relocations functions tables layout =
     numbered (λ number entries. table_relocations functions layout (table_at tables layout number) entries) 0 tables
 
-abbrev pub bind_relocations : List (ℕ × ℕ) → Layout → List ℕ
+unfoldable pub bind_relocations : List (ℕ × ℕ) → Layout → List ℕ
 bind_relocations binds layout = flat_map (bind_relocation layout) binds
 
 -- the relocations: of the slots, of the pairs, of the entries, of the binds
-abbrev pub relocations : Parts → Layout → List ℕ
+unfoldable pub relocations : Parts → Layout → List ℕ
 relocations parts layout =
     slot_relocations parts.imports layout
     ++ pair_relocations parts.tables layout

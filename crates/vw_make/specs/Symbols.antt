@@ -17,7 +17,7 @@ abbrev pub strings : List (List ℕ) → List ℕ
 strings names = flat_map string names
 
 -- the string table: a zero byte, and then the names
-abbrev pub string_table : List (List ℕ) → List ℕ
+unfoldable pub string_table : List (List ℕ) → List ℕ
 string_table names = 0 ∷ strings names
 
 -- where the name with this number begins in the string table
@@ -33,11 +33,11 @@ abbrev pub import_symbol : List (List ℕ) → ℕ → List ℕ
 import_symbol names number = symbol (name_at names number) 0x12 0 0 0
 
 -- the symbols of the imports, in their order; import k has the index k + 1
-abbrev pub import_symbols : List (List ℕ) → List ℕ
+unfoldable pub import_symbols : List (List ℕ) → List ℕ
 import_symbols imports = counted (import_symbol imports) (length imports)
 
 -- the dynamic symbols
-abbrev pub dynamic_symbols : List (List ℕ) → List ℕ
+unfoldable pub dynamic_symbols : List (List ℕ) → List ℕ
 dynamic_symbols imports = null_symbol ++ import_symbols imports
 
 -- a function: STB_GLOBAL, STT_FUNC, defined in section 1; the size is that of its code
@@ -45,16 +45,16 @@ abbrev pub function_symbol : List Func → Layout → ℕ → Func → List ℕ
 function_symbol functions layout number f =
     symbol (name_at (function_names functions) number) 0x12 1 (function_at functions layout number) (length f.code)
 
-abbrev pub function_symbols : List Func → Layout → List ℕ
+unfoldable pub function_symbols : List Func → Layout → List ℕ
 function_symbols functions layout = numbered (function_symbol functions layout) 0 functions
 
 -- `lucet_tables`, whose name stands behind those of the functions: STB_GLOBAL, STT_OBJECT, defined in
 -- section 1; one pair of 16 bytes for each table
-abbrev pub tables_symbol : Parts → Layout → List ℕ
+unfoldable pub tables_symbol : Parts → Layout → List ℕ
 tables_symbol parts layout = symbol (strings_size (function_names parts.functions)) 0x11 1 layout.lucet_tables (16 * length parts.tables)
 
 -- the symbols: the null symbol, the functions, and `lucet_tables` where there is a table
-abbrev pub symbols : Parts → Layout → List ℕ
+unfoldable pub symbols : Parts → Layout → List ℕ
 symbols parts layout =
     null_symbol ++ function_symbols parts.functions layout ++ (if has_table parts then tables_symbol parts layout else [])
 

@@ -10,7 +10,7 @@ use Rattle.vw_make.specs.Bytes.{zeros, padded, with_fields}
 use Rattle.vw_make.specs.Records.{dynamic_entry}
 
 -- eight bytes for each import
-abbrev pub slots : List (List ℕ) → List ℕ
+unfoldable pub slots : List (List ℕ) → List ℕ
 slots imports = zeros (8 * length imports)
 
 -- the pair of a table: its address, and how many entries it has
@@ -18,7 +18,7 @@ abbrev pub pair : List (ℕ × Option ℕ) → List ℕ
 pair entries = zeros 8 ++ little_bytes 8 (length entries)
 
 -- `lucet_tables`
-abbrev pub pairs : List (List (ℕ × Option ℕ)) → List ℕ
+unfoldable pub pairs : List (List (ℕ × Option ℕ)) → List ℕ
 pairs tables = flat_map pair tables
 
 -- the tag of an empty entry
@@ -30,23 +30,23 @@ abbrev pub entry : ℕ × Option ℕ → List ℕ
 entry (tag, None) = little_bytes 8 empty_tag ++ zeros 8
 entry (tag, Some function) = little_bytes 8 tag ++ zeros 8
 
-abbrev pub table : List (ℕ × Option ℕ) → List ℕ
+unfoldable pub table : List (ℕ × Option ℕ) → List ℕ
 table entries = flat_map entry entries
 
-abbrev pub tables : List (List (ℕ × Option ℕ)) → List ℕ
+unfoldable pub tables : List (List (ℕ × Option ℕ)) → List ℕ
 tables all_tables = flat_map table all_tables
 
 -- the content, with the words under binds 0
-abbrev pub bound_content : Parts → List ℕ
+unfoldable pub bound_content : Parts → List ℕ
 bound_content parts = with_fields (λ bind. zeros 8) 8 parts.binds parts.content
 
 -- the data
-abbrev pub padded_content : Parts → List ℕ
+unfoldable pub padded_content : Parts → List ℕ
 padded_content parts = padded 8 0 (bound_content parts)
 
 -- the dynamic section (System V gABI, "Dynamic Section"): DT_STRTAB, DT_SYMTAB, DT_STRSZ, DT_SYMENT, DT_RELA,
 -- DT_RELASZ, DT_RELAENT, DT_NULL
-abbrev pub dynamic_section : Sizes → Layout → List ℕ
+unfoldable pub dynamic_section : Sizes → Layout → List ℕ
 dynamic_section size layout =
     dynamic_entry 5 layout.dynamic_strings
     ++ dynamic_entry 6 232

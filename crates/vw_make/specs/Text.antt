@@ -22,14 +22,14 @@ abbrev pub fix_field : List Func → Layout → ℕ → ℕ × Target → List �
 fix_field functions layout at fix = little_bytes 4 (difference (target_at functions layout fix.1) (at + fix.0 + 4))
 
 -- the code of a function at the address `at`, with its fixes written
-abbrev pub fixed_code : List Func → Layout → ℕ → Func → List ℕ
+unfoldable pub fixed_code : List Func → Layout → ℕ → Func → List ℕ
 fixed_code functions layout at f = with_fields (fix_field functions layout at) 4 f.fixes f.code
 
 -- a function in the text
 abbrev pub function_text : List Func → Layout → ℕ → Func → List ℕ
 function_text functions layout number f = padded 16 0xCC (fixed_code functions layout (function_at functions layout number) f)
 
-abbrev pub function_texts : List Func → Layout → List ℕ
+unfoldable pub function_texts : List Func → Layout → List ℕ
 function_texts functions layout = numbered (function_text functions layout) 0 functions
 
 -- the stub of an import: `jmp [rip + disp32]` (FF /4) through its slot
@@ -40,9 +40,9 @@ stub layout number = 0xFF ∷ 0x25 ∷ little_bytes 4 (difference (slot_at layou
 abbrev pub stub_text : Layout → ℕ → List ℕ
 stub_text layout number = padded 16 0xCC (stub layout number)
 
-abbrev pub stub_texts : List (List ℕ) → Layout → List ℕ
+unfoldable pub stub_texts : List (List ℕ) → Layout → List ℕ
 stub_texts imports layout = counted (stub_text layout) (length imports)
 
 -- the text: the functions, then the stubs
-abbrev pub text : Parts → Layout → List ℕ
+unfoldable pub text : Parts → Layout → List ℕ
 text parts layout = function_texts parts.functions layout ++ stub_texts parts.imports layout

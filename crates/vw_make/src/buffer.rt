@@ -74,9 +74,9 @@ pub fn pad(bytes: &mut Vec<u8>, align: u64, filler: u8) -> Result<(), OutOfMemor
 }
 
 /// Writes a field over the bytes from `at` on.
-pub fn write_at(bytes: &mut [u8], at: usize, field: &[u8])
-    requires { at + length field.now ≤ length bytes.old }
-    ensures { bytes.new ≡ put_at at field.now bytes.old }
+pub fn write_at(bytes: &mut Vec<u8>, at: usize, field: &[u8])
+    requires { at + length field.now ≤ vec_len bytes.old }
+    ensures { bytes.new.items ≡ put_at at field.now bytes.old.items }
 {
     bytes[at..at + field.len()].copy_from_slice(field);
 }

@@ -13,6 +13,7 @@ const FILE_HEADER_FRONT: [u8; 40] = [
 const FILE_HEADER_BACK: [u8; 16] = [0, 0, 0, 0, 64, 0, 56, 0, 3, 0, 64, 0, 3, 0, 0, 0];
 
 /// Appends the ELF header, with `e_shoff`.
+#[tactic(auto, unfolding(crate::specs::Records::file_header))]
 pub fn put_file_header(out: &mut Vec<u8>, sections: u64) -> Result<(), OutOfMemory>
     ensures { OnOk result (out.new.items ≡ out.old.items ++ file_header sections) }
 {
@@ -47,7 +48,8 @@ pub fn put_program_header(out: &mut Vec<u8>, header: &ProgramHeader) -> Result<(
     put_u64(out, 0)?;
     put_u64(out, header.size)?;
     put_u64(out, header.size)?;
-    put_u64(out, header.align)
+    put_u64(out, header.align)?;
+    Ok(())
 }
 
 /// An entry of a symbol table.
@@ -73,10 +75,12 @@ pub fn put_symbol(out: &mut Vec<u8>, entry: &SymbolEntry) -> Result<(), OutOfMem
     put(out, &[entry.info, 0])?;
     put_u16(out, entry.section)?;
     put_u64(out, entry.value)?;
-    put_u64(out, entry.size)
+    put_u64(out, entry.size)?;
+    Ok(())
 }
 
 /// Appends a null symbol (STN_UNDEF).
+#[tactic(auto, unfolding(crate::specs::Records::symbol))]
 pub fn put_null_symbol(out: &mut Vec<u8>) -> Result<(), OutOfMemory>
     ensures { OnOk result (out.new.items ≡ out.old.items ++ symbol 0 0 0 0 0) }
 {
@@ -97,6 +101,7 @@ pub struct RelaEntry {
 }
 
 /// Appends a relocation.
+#[tactic(auto, unfolding(crate::specs::Records::relocation))]
 pub fn put_relocation(out: &mut Vec<u8>, entry: &RelaEntry) -> Result<(), OutOfMemory>
     ensures { OnOk result (out.new.items ≡ out.old.items ++ relocation entry.now.offset entry.now.kind entry.now.symbol entry.now.addend) }
 {
@@ -107,6 +112,7 @@ pub fn put_relocation(out: &mut Vec<u8>, entry: &RelaEntry) -> Result<(), OutOfM
 }
 
 /// Appends an entry of the dynamic section.
+#[tactic(auto, unfolding(crate::specs::Records::dynamic_entry))]
 pub fn put_dynamic_entry(out: &mut Vec<u8>, tag: u64, value: u64) -> Result<(), OutOfMemory>
     ensures { OnOk result (out.new.items ≡ out.old.items ++ dynamic_entry tag value) }
 {
@@ -130,6 +136,7 @@ pub struct SectionHeader {
 }
 
 /// Appends a section header.
+#[tactic(auto, unfolding(crate::specs::Records::section_header))]
 pub fn put_section_header(out: &mut Vec<u8>, header: &SectionHeader) -> Result<(), OutOfMemory>
     ensures { OnOk result (out.new.items ≡ out.old.items ++ section_header header.now.kind header.now.offset header.now.size header.now.link header.now.entry_size) }
 {

@@ -15,6 +15,7 @@ const GLOB_DAT: u32 = 6;
 const RELATIVE: u32 = 8;
 
 /// Appends the relocation table: the slots, the pairs, the entries that are not empty, the binds.
+#[tactic(auto, unfolding(crate::specs::Relocations::relocations))]
 pub fn put_relocations(out: &mut Vec<u8>, plan: &Plan) -> Result<(), OutOfMemory>
     requires { IsPlan plan.now }
     ensures { OnOk result (out.new.items ≡ out.old.items ++ relocations plan.now.parts.now plan.now.layout) }
@@ -25,6 +26,7 @@ pub fn put_relocations(out: &mut Vec<u8>, plan: &Plan) -> Result<(), OutOfMemory
     put_bind_relocations(out, plan)
 }
 
+#[tactic(auto, unfolding(crate::specs::Relocations::slot_relocations))]
 fn put_slot_relocations(out: &mut Vec<u8>, plan: &Plan) -> Result<(), OutOfMemory>
     requires { IsPlan plan.now }
     ensures { OnOk result (out.new.items ≡ out.old.items ++ slot_relocations plan.now.parts.now.imports plan.now.layout) }
@@ -55,6 +57,7 @@ fn put_relative(out: &mut Vec<u8>, at: u64, address: u64) -> Result<(), OutOfMem
     put_relocation(out, &entry)
 }
 
+#[tactic(auto, unfolding(crate::specs::Relocations::pair_relocations))]
 fn put_pair_relocations(out: &mut Vec<u8>, plan: &Plan) -> Result<(), OutOfMemory>
     requires { IsPlan plan.now }
     ensures { OnOk result (out.new.items ≡ out.old.items ++ pair_relocations plan.now.parts.now.tables plan.now.layout) }
@@ -70,6 +73,7 @@ fn put_pair_relocations(out: &mut Vec<u8>, plan: &Plan) -> Result<(), OutOfMemor
     Ok(())
 }
 
+#[tactic(auto, unfolding(crate::specs::Relocations::entry_relocations))]
 fn put_entry_relocations(out: &mut Vec<u8>, plan: &Plan) -> Result<(), OutOfMemory>
     requires { IsPlan plan.now }
     ensures { OnOk result (out.new.items ≡ out.old.items ++ entry_relocations plan.now.parts.now.functions plan.now.parts.now.tables plan.now.layout) }
@@ -84,6 +88,7 @@ fn put_entry_relocations(out: &mut Vec<u8>, plan: &Plan) -> Result<(), OutOfMemo
 }
 
 // Appends those of the entries of a table that begins at `at`.
+#[tactic(auto, unfolding(crate::specs::Relocations::table_relocations))]
 fn put_table_relocations(
     out: &mut Vec<u8>,
     plan: &Plan,
@@ -121,6 +126,7 @@ fn put_entry_relocation(
     }
 }
 
+#[tactic(auto, unfolding(crate::specs::Relocations::bind_relocations))]
 fn put_bind_relocations(out: &mut Vec<u8>, plan: &Plan) -> Result<(), OutOfMemory>
     requires { IsPlan plan.now }
     ensures { OnOk result (out.new.items ≡ out.old.items ++ bind_relocations plan.now.parts.now.binds plan.now.layout) }

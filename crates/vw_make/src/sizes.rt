@@ -1,8 +1,7 @@
 ghost use Rattle.std.specs.Prelude.{◌≡◌, ◌<◌, ◌^◌, length};
 ghost use Rattle.std.specs.List.{sum_by};
 ghost use Rattle.vw_make.specs.Bounds.{MeetsBounds};
-ghost use Rattle.vw_make.specs.Layout.{sizes_of, strings_size, function_names, function_space, filled_entries};
-ghost use Rattle.vw_make.specs.Small.{AreSmall};
+ghost use Rattle.vw_make.specs.Layout.{sizes_of, relocation_count, symbol_count, symbol_strings_size, strings_size, function_names, function_space, filled_entries};
 
 use crate::buffer::round_up;
 use crate::parts::{Func, Parts};
@@ -34,28 +33,57 @@ pub struct Sizes {
 /// The sizes of these parts.
 pub fn measure(parts: &Parts) -> Sizes
     requires { MeetsBounds parts.now }
-    ensures value { result ≡ sizes_of parts.now }
-    ensures small { AreSmall result }
+    ensures { result ≡ sizes_of parts.now }
 {
     let functions = parts.functions.as_slice();
     let imports = parts.imports.as_slice();
     let tables = parts.tables.as_slice();
-    let (table_symbols, table_name) = if tables.is_empty() { (0, 0) } else { (1, 13) };
-    let relocations = imports.len() as u64
-        + tables.len() as u64
-        + filled_count(tables)
-        + parts.binds.as_slice().len() as u64;
     Sizes {
         imports: imports.len() as u64,
         dynamic_strings: import_strings_size(imports),
-        relocations: 24 * relocations,
+        relocations: 24 * relocation_count_of(parts),
         functions: functions_size(functions),
         tables: tables.len() as u64,
         entries: entry_count(tables),
         content: round_up(parts.content.as_slice().len() as u64, 8),
-        symbols: 24 * (1 + functions.len() as u64 + table_symbols),
-        strings: function_strings_size(functions) + table_name,
+        symbols: 24 * symbol_count_of(parts),
+        strings: symbol_strings_size_of(parts),
     }
+}
+
+// How many relocations there are.
+fn relocation_count_of(parts: &Parts) -> u64
+    requires { MeetsBounds parts.now }
+    ensures { result ≡ relocation_count parts.now }
+{
+    let imports = parts.imports.as_slice().len() as u64;
+    let tables = parts.tables.as_slice();
+    let binds = parts.binds.as_slice().len() as u64;
+    imports + tables.len() as u64 + filled_count(tables) + binds
+}
+
+// How many symbols there are.
+fn symbol_count_of(parts: &Parts) -> u64
+    requires { MeetsBounds parts.now }
+    ensures { result ≡ symbol_count parts.now }
+{
+    let functions = parts.functions.as_slice().len() as u64;
+    if parts.tables.as_slice().is_empty() {
+        return 1 + functions;
+    }
+    1 + functions + 1
+}
+
+// The bytes of the string table of the symbols.
+fn symbol_strings_size_of(parts: &Parts) -> u64
+    requires { MeetsBounds parts.now }
+    ensures { result ≡ symbol_strings_size parts.now }
+{
+    let size = function_strings_size(parts.functions.as_slice());
+    if parts.tables.as_slice().is_empty() {
+        return size;
+    }
+    size + 13
 }
 
 // The bytes of the string table with the names of the imports.

@@ -19,6 +19,7 @@ const UNDEFINED: u16 = 0;
 const DEFINED: u16 = 1;
 
 /// Appends the dynamic symbols: a null one, and one for each import.
+#[tactic(auto, unfolding(crate::specs::Symbols::dynamic_symbols))]
 pub fn put_dynamic_symbols(out: &mut Vec<u8>, imports: &[Text]) -> Result<(), OutOfMemory>
     requires { strings_size imports.now < 2 ^ 32 }
     ensures { OnOk result (out.new.items ≡ out.old.items ++ dynamic_symbols imports.now) }
@@ -27,6 +28,7 @@ pub fn put_dynamic_symbols(out: &mut Vec<u8>, imports: &[Text]) -> Result<(), Ou
     put_import_symbols(out, imports)
 }
 
+#[tactic(auto, unfolding(crate::specs::Symbols::import_symbols))]
 fn put_import_symbols(out: &mut Vec<u8>, imports: &[Text]) -> Result<(), OutOfMemory>
     requires { strings_size imports.now < 2 ^ 32 }
     ensures { OnOk result (out.new.items ≡ out.old.items ++ import_symbols imports.now) }
@@ -47,6 +49,7 @@ fn put_import_symbols(out: &mut Vec<u8>, imports: &[Text]) -> Result<(), OutOfMe
 }
 
 /// Appends the string table of the dynamic symbols.
+#[tactic(auto, unfolding(crate::specs::Symbols::string_table))]
 pub fn put_dynamic_strings(out: &mut Vec<u8>, imports: &[Text]) -> Result<(), OutOfMemory>
     ensures { OnOk result (out.new.items ≡ out.old.items ++ string_table imports.now) }
 {
@@ -92,6 +95,7 @@ pub fn put_symbols(out: &mut Vec<u8>, plan: &Plan) -> Result<(), OutOfMemory>
 }
 
 // Appends the symbols of the functions. Answers where the next name begins in the string table.
+#[tactic(auto, unfolding(crate::specs::Symbols::function_symbols))]
 fn put_function_symbols(out: &mut Vec<u8>, plan: &Plan) -> Result<u32, OutOfMemory>
     requires { IsPlan plan.now }
     ensures next { IfOk result (λ next. next ≡ strings_size (function_names plan.now.parts.now.functions)) }

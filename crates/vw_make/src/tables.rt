@@ -31,6 +31,7 @@ const DT_STRSZ: u64 = 10;
 const DT_SYMENT: u64 = 11;
 
 /// Appends the slots of the imports.
+#[tactic(auto, unfolding(crate::specs::Tables::slots))]
 pub fn put_slots(out: &mut Vec<u8>, plan: &Plan) -> Result<(), OutOfMemory>
     requires { IsPlan plan.now }
     ensures { OnOk result (out.new.items ≡ out.old.items ++ slots plan.now.parts.now.imports) }
@@ -39,6 +40,7 @@ pub fn put_slots(out: &mut Vec<u8>, plan: &Plan) -> Result<(), OutOfMemory>
 }
 
 /// Appends `lucet_tables`.
+#[tactic(auto, unfolding(crate::specs::Tables::pairs))]
 pub fn put_pairs(out: &mut Vec<u8>, tables: &[List<(u64, Option<u32>)>]) -> Result<(), OutOfMemory>
     ensures { OnOk result (out.new.items ≡ out.old.items ++ pairs tables.now) }
 {
@@ -50,6 +52,7 @@ pub fn put_pairs(out: &mut Vec<u8>, tables: &[List<(u64, Option<u32>)>]) -> Resu
 }
 
 /// Appends the tables.
+#[tactic(auto, unfolding(crate::specs::Tables::tables))]
 pub fn put_tables(out: &mut Vec<u8>, all: &[List<(u64, Option<u32>)>]) -> Result<(), OutOfMemory>
     ensures { OnOk result (out.new.items ≡ out.old.items ++ tables all.now) }
 {
@@ -59,6 +62,7 @@ pub fn put_tables(out: &mut Vec<u8>, all: &[List<(u64, Option<u32>)>]) -> Result
     Ok(())
 }
 
+#[tactic(auto, unfolding(crate::specs::Tables::table))]
 fn put_table(out: &mut Vec<u8>, entries: &[(u64, Option<u32>)]) -> Result<(), OutOfMemory>
     ensures { OnOk result (out.new.items ≡ out.old.items ++ table entries.now) }
 {
@@ -79,13 +83,13 @@ fn put_entry(out: &mut Vec<u8>, item: (u64, Option<u32>)) -> Result<(), OutOfMem
 }
 
 /// Appends the data, in which the words under binds are 0.
+#[tactic(auto, unfolding(crate::specs::Tables::padded_content, crate::specs::Tables::bound_content))]
 pub fn put_content(out: &mut Vec<u8>, parts: &Parts) -> Result<(), OutOfMemory>
     requires { MeetsBounds parts.now }
     ensures { OnOk result (out.new.items ≡ out.old.items ++ padded_content parts.now) }
 {
-    let unbound = parts.content.as_slice();
     let binds = parts.binds.as_slice();
-    let mut content = Vec::from_slice(*out.allocator(), unbound)?;
+    let mut content = Vec::from_slice(*out.allocator(), parts.content.as_slice())?;
     for bind in binds {
         write_at(&mut content, bind.0 as usize, &[0; 8]);
     }
@@ -94,6 +98,7 @@ pub fn put_content(out: &mut Vec<u8>, parts: &Parts) -> Result<(), OutOfMemory>
 }
 
 /// Appends the dynamic section.
+#[tactic(auto, unfolding(crate::specs::Tables::dynamic_section))]
 pub fn put_dynamic_section(
     out: &mut Vec<u8>,
     size: &Sizes,

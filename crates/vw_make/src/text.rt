@@ -15,6 +15,7 @@ use vw_bits::OutOfMemory;
 const FILLER: u8 = 0xCC;
 
 /// Appends the text: the functions, then the stubs.
+#[tactic(auto, unfolding(crate::specs::Text::text))]
 pub fn put_text(out: &mut Vec<u8>, plan: &Plan) -> Result<(), OutOfMemory>
     requires { IsPlan plan.now }
     ensures { OnOk result (out.new.items ≡ out.old.items ++ text plan.now.parts.now plan.now.layout) }
@@ -23,6 +24,7 @@ pub fn put_text(out: &mut Vec<u8>, plan: &Plan) -> Result<(), OutOfMemory>
     put_stubs(out, plan)
 }
 
+#[tactic(auto, unfolding(crate::specs::Text::function_texts))]
 fn put_functions(out: &mut Vec<u8>, plan: &Plan) -> Result<(), OutOfMemory>
     requires { IsPlan plan.now }
     ensures { OnOk result (out.new.items ≡ out.old.items ++ function_texts plan.now.parts.now.functions plan.now.layout) }
@@ -38,14 +40,14 @@ fn put_functions(out: &mut Vec<u8>, plan: &Plan) -> Result<(), OutOfMemory>
 }
 
 // The code of a function at the address `at`, with its fixes written.
+#[tactic(auto, unfolding(crate::specs::Text::fixed_code))]
 fn code_with_fixes(alloc: Global, plan: &Plan, func: &Func, at: u64) -> Result<Vec<u8>, OutOfMemory>
     requires plan { IsPlan plan.now }
     requires fits { FuncFits plan.now.parts.now func.now }
     requires low { at < 2 ^ 31 }
     ensures { IfOk result (λ code. code.items ≡ fixed_code plan.now.parts.now.functions plan.now.layout at func.now) }
 {
-    let unfixed = func.code.as_slice();
-    let mut code = Vec::from_slice(alloc, unfixed)?;
+    let mut code = Vec::from_slice(alloc, func.code.as_slice())?;
     let fixes = func.fixes.as_slice();
     for fix in fixes {
         let behind = at + fix.0 as u64 + 4;
@@ -79,6 +81,7 @@ fn target_address(plan: &Plan, target: Target) -> u64
     }
 }
 
+#[tactic(auto, unfolding(crate::specs::Text::stub_texts))]
 fn put_stubs(out: &mut Vec<u8>, plan: &Plan) -> Result<(), OutOfMemory>
     requires { IsPlan plan.now }
     ensures { OnOk result (out.new.items ≡ out.old.items ++ stub_texts plan.now.parts.now.imports plan.now.layout) }
@@ -101,5 +104,6 @@ fn put_stub(out: &mut Vec<u8>, at: u64, slot: u64) -> Result<(), OutOfMemory>
 {
     put(out, &[0xFF, 0x25])?;
     put_u32(out, distance(slot, at + 6))?;
-    put(out, &[FILLER; 10])
+    put(out, &[FILLER; 10])?;
+    Ok(())
 }

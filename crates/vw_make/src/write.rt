@@ -48,6 +48,7 @@ pub fn write_module(alloc: Global, parts: &Parts) -> Result<List<u8>, OutOfMemor
     Ok(List::from_vec(file))
 }
 
+#[tactic(auto, unfolding(crate::specs::Module::file_of))]
 fn whole_file(alloc: Global, plan: &Plan) -> Result<Vec<u8>, OutOfMemory>
     requires { IsPlan plan.now }
     ensures { IfOk result (λ file. file.items ≡ file_of plan.now.parts.now plan.now.sizes plan.now.layout) }
@@ -61,6 +62,7 @@ fn whole_file(alloc: Global, plan: &Plan) -> Result<Vec<u8>, OutOfMemory>
 }
 
 // The file up to the end of the dynamic section.
+#[tactic(auto, unfolding(crate::specs::Module::with_dynamic))]
 fn file_with_dynamic(alloc: Global, plan: &Plan) -> Result<Vec<u8>, OutOfMemory>
     requires { IsPlan plan.now }
     ensures { IfOk result (λ file. file.items ≡ with_dynamic plan.now.parts.now plan.now.sizes plan.now.layout) }
@@ -76,6 +78,7 @@ fn file_with_dynamic(alloc: Global, plan: &Plan) -> Result<Vec<u8>, OutOfMemory>
 }
 
 // The file up to the end of the text.
+#[tactic(auto, unfolding(crate::specs::Module::with_text))]
 fn file_with_text(alloc: Global, plan: &Plan) -> Result<Vec<u8>, OutOfMemory>
     requires { IsPlan plan.now }
     ensures { IfOk result (λ file. file.items ≡ with_text plan.now.parts.now plan.now.layout) }
@@ -89,6 +92,7 @@ fn file_with_text(alloc: Global, plan: &Plan) -> Result<Vec<u8>, OutOfMemory>
 }
 
 // The file up to the end of the dynamic symbols' strings.
+#[tactic(auto, unfolding(crate::specs::Module::front))]
 fn file_front(alloc: Global, plan: &Plan) -> Result<Vec<u8>, OutOfMemory>
     requires { IsPlan plan.now }
     ensures { IfOk result (λ file. file.items ≡ front plan.now.parts.now plan.now.layout) }
@@ -102,6 +106,7 @@ fn file_front(alloc: Global, plan: &Plan) -> Result<Vec<u8>, OutOfMemory>
     Ok(out)
 }
 
+#[tactic(auto, unfolding(crate::specs::Module::program_headers))]
 fn put_program_headers(out: &mut Vec<u8>, layout: &Layout) -> Result<(), OutOfMemory>
     requires { layout.now.slots ≤ layout.now.dynamic × layout.now.dynamic < 2 ^ 40 }
     ensures { OnOk result (out.new.items ≡ out.old.items ++ program_headers layout.now) }
@@ -132,6 +137,7 @@ fn put_program_headers(out: &mut Vec<u8>, layout: &Layout) -> Result<(), OutOfMe
     put_program_header(out, &dynamic)
 }
 
+#[tactic(auto, unfolding(crate::specs::Module::section_headers))]
 fn put_section_headers(out: &mut Vec<u8>, size: &Sizes, layout: &Layout) -> Result<(), OutOfMemory>
     ensures { OnOk result (out.new.items ≡ out.old.items ++ section_headers size.now layout.now) }
 {
