@@ -1,6 +1,7 @@
 -- One turn of each loop that appends the bytes of an item.
 use Rattle.std.proofs.Common.{◌≡◌, ◌∙◌, ℕ, ◌+◌, ◌*◌, ◌<◌, Bool, true, false, List, [], ◌∷◌, ◌++◌, Option, length, take, get_or, map, codes, append-nil, append_assoc, refl, sym, ap, subst, arith, if◌then◌else◌}
 use Rattle.std.specs.List.{flat_map}
+use Rattle.std.proofs.lemmas.List.{flat_map_more, take_more}
 use Rattle.std.proofs.lemmas.List.Concat.{flat_map-append}
 use Rattle.vw_make.specs.declared.parts.Parts.{Parts}
 use Rattle.vw_make.specs.declared.parts.Func.{Func}
@@ -72,3 +73,10 @@ names_without parts old none =
     append_assoc old (0 ∷ []) (strings (function_names parts.functions))
     ∙ (ap (λ (names : List (List ℕ)). old ++ (0 ∷ strings names)) (sym (append-nil (function_names parts.functions)))
     ∙ ap (λ (b : Bool). old ++ (0 ∷ strings (function_names parts.functions ++ (if b then codes "lucet_tables" ∷ [] else [])))) (sym none))
+
+pub flat_map_step : {X : Type 0} (f : X → List ℕ) (xs : List X) (i : ℕ) (d : X) (old now new piece : List ℕ) → i < length xs → now ≡ old ++ flat_map f (take i xs) → new ≡ now ++ piece → piece ≡ f (get_or xs i d) → new ≡ old ++ flat_map f (take (i + 1) xs)
+flat_map_step {X} f xs i d old now new piece inside before added same =
+    added
+    ∙ (ap (λ (bytes : List ℕ). bytes ++ piece) before
+    ∙ (ap (λ (p : List ℕ). (old ++ flat_map f (take i xs)) ++ p) same
+    ∙ (flat_map_more f old (take i xs) (get_or xs i d) ∙ ap (λ (ys : List X). old ++ flat_map f ys) (sym (take_more xs i d inside)))))

@@ -1,4 +1,4 @@
-use Rattle.std.proofs.Common.{ℕ, Option, None, ◌+◌, ◌*◌, sym, ap, arith}
+use Rattle.std.proofs.Common.{ℕ, Option, None, get_or, ◌+◌, ◌*◌, sym, ap, arith}
 use Rattle.vw_make.specs.Relocations.{entry_relocation}
 use Rattle.vw_make.proofs.Steps.{numbered_step}
 use Rattle.vw_make.proofs.relocations.put_table_relocations.Goals as goal
@@ -12,5 +12,5 @@ loop-entry-preserved c =
         (λ (number : ℕ) (entry : ℕ × Option ℕ). entry_relocation c.args.plan.now.parts.now.functions c.args.plan.now.layout (c.args.at + 16 * number) entry)
         c.args.entries.now c.loop-entry.entry-index (0, None) c.args.out.now.items c.loop-entry.out.items c.put_entry_relocation.new.out.items _
         c.loop-entry-test.true c.loop-entry.invariant.bytes c.in_ok-put_entry_relocation.ensures
-        (ap (λ (place : ℕ). entry_relocation c.args.plan.now.parts.now.functions c.args.plan.now.layout place _) c.loop-entry.invariant.place);
+        (ap (λ (place : ℕ). entry_relocation c.args.plan.now.parts.now.functions c.args.plan.now.layout place (get_or c.args.entries.now c.loop-entry.entry-index (0, None))) c.loop-entry.invariant.place);
     }

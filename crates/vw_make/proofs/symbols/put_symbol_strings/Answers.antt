@@ -1,0 +1,16 @@
+use Rattle.std.proofs.Common.{◌≡◌, ◌∙◌, Bool, true, false, not, ℕ, List, Option, length, ap, sym, eqb}
+use Rattle.vw_make.specs.declared.parts.Func.{Func}
+use Rattle.vw_make.specs.Layout.{has_table, function_names}
+use Rattle.vw_make.specs.Symbols.{strings}
+use Rattle.vw_make.proofs.Steps.{names_with, names_without}
+use Rattle.vw_make.proofs.symbols.put_symbol_strings.Goals as goal
+
+pub returns-then-is_empty : goal.returns-then-is_empty
+returns-then-is_empty c =
+    let none : has_table c.args.plan.now.parts.now ≡ false = sym (ap not (c.if-is_empty.ensures ∙ ap (λ (tables : List (List (ℕ × Option ℕ))). eqb (length tables) 0) c.as_slice-2.ensures)) in
+    rw (c.in_ok-put_function_names.ensures, c.in_ok-put.ensures, c.as_slice.ensures) (names_without c.args.plan.now.parts.now c.args.out.now.items none)
+
+pub returns : goal.returns
+returns c is_ok =
+    let some : has_table c.args.plan.now.parts.now ≡ true = sym (ap not (c.if-is_empty.ensures ∙ ap (λ (tables : List (List (ℕ × Option ℕ))). eqb (length tables) 0) c.as_slice-2.ensures)) in
+    ?
