@@ -1,8 +1,8 @@
 -- Fields that are written over bytes, one by one.
-use Rattle.std.proofs.Common.{◌≡◌, ◌≢◌, ◌∙◌, ℕ, zero, suc, ◌+◌, ◌-◌, ◌<◌, ◌≤◌, ◌⊎◌, inl, inr, Bool, true, false, cond, List, [], ◌∷◌, ◌++◌, length, take, drop, get_or, map, Option, Some, None, length-append, refl, sym, ap, arith}
-use Rattle.std.specs.List.{find, range_with_len}
+use Rattle.std.proofs.Common.{◌≡◌, ◌≢◌, ◌∙◌, ℕ, zero, suc, ◌+◌, ◌-◌, ◌<◌, ◌≤◌, ◌⊎◌, inl, inr, Bool, true, false, cond, List, [], ◌∷◌, ◌++◌, length, take, drop, get_or, map, Option, Some, None, length-append, refl, sym, ap, subst, arith}
+use Rattle.std.specs.List.{find, range_with_len, AllPairs}
 use Rattle.std.specs.Option.{option_map_or, option_or}
-use Rattle.std.proofs.lemmas.List.{length-drop, length-take-le, get_or-take, get_or-drop, get_or_append_left, get_or-append_right}
+use Rattle.std.proofs.lemmas.List.{length-drop, length-take-le, get_or-take, get_or-drop, get_or_append_left, get_or-append_right, get_or_default, take_more}
 use Rattle.std.proofs.lemmas.List.FromFn.{fill_by_all, length-map-range_with_len, get_or-map-range_with_len}
 use Rattle.std.proofs.lemmas.List.Folds.{find-append}
 use Rattle.std.proofs.lemmas.Bool.{cases_lt}
@@ -122,3 +122,19 @@ with_fields_more field size items item bytes sized fits apart =
     is_with_fields field size (items ++ item ∷ []) bytes (put_at item.0 (field item) (with_fields field size items bytes))
     (length-put_at item.0 (field item) (with_fields field size items bytes) (omega arith) ∙ same)
     (byte_more field size items item bytes sized fits apart)
+
+-- one turn of a loop that writes the fields of a list
+pub fields_step : {X : Type 0} (field : ℕ × X → List ℕ) (size : ℕ) (items : List (ℕ × X)) (i : ℕ) (d : ℕ × X) (bytes now new piece : List ℕ) → i < length items → length piece ≡ size → (get_or items i d).0 + size ≤ length bytes → AllPairs (AreApart size) items
+    → now ≡ with_fields field size (take i items) bytes → piece ≡ field (get_or items i d) → new ≡ put_at (get_or items i d).0 piece now → new ≡ with_fields field size (take (i + 1) items) bytes
+fields_step {X} field size items i d bytes now new piece inside sized fits apart before same written =
+    let front : length (take i items) ≡ i = length-take-le i items (omega arith) in
+    let others : (j : ℕ) (e : ℕ × X) → j < length (take i items) → AreApart size (get_or (take i items) j e) (get_or items i d) =
+      λ j e below.
+        subst (λ (x : ℕ × X). AreApart size (get_or (take i items) j e) x) (get_or_default items i e d inside)
+        (subst (λ (x : ℕ × X). AreApart size x (get_or items i e)) (sym (get_or-take i items j e (omega arith))) (apart j i e (omega arith) inside))
+      in
+    written
+    ∙ (ap (λ (p : List ℕ). put_at (get_or items i d).0 p now) same
+    ∙ (ap (λ (n : List ℕ). put_at (get_or items i d).0 (field (get_or items i d)) n) before
+    ∙ (with_fields_more field size (take i items) (get_or items i d) bytes (ap length (sym same) ∙ sized) fits others
+    ∙ ap (λ (taken : List (ℕ × X)). with_fields field size taken bytes) (sym (take_more items i d inside)))))

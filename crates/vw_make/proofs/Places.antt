@@ -152,6 +152,7 @@ pub record SmallParts (parts : Parts) : Type 0 where
   pub relocations : 24 * relocation_count parts < 2 ^ 32
   pub functions : sum_by function_space parts.functions < 2 ^ 32
   pub entries : sum_by length parts.tables < 2 ^ 32
+  pub content : length parts.content < 2 ^ 32
   pub symbols : 24 * symbol_count parts < 2 ^ 32
   pub strings : symbol_strings_size parts < 2 ^ 32
   pub names : strings_size (function_names parts.functions) < 2 ^ 32
@@ -166,6 +167,7 @@ small_parts {parts} bounds =
       relocations = small.relocations;
       functions = small.functions;
       entries = small.entries;
+      content = lt_of_le_of_lt (rounded_up_ge 8 (length parts.content) (lit≤ tt)) small.content;
       symbols = small.symbols;
       strings = small.strings;
       names = lt_of_le_of_lt (le-add_right _ _) small.strings;

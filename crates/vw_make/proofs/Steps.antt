@@ -80,3 +80,11 @@ flat_map_step {X} f xs i d old now new piece inside before added same =
     ∙ (ap (λ (bytes : List ℕ). bytes ++ piece) before
     ∙ (ap (λ (p : List ℕ). (old ++ flat_map f (take i xs)) ++ p) same
     ∙ (flat_map_more f old (take i xs) (get_or xs i d) ∙ ap (λ (ys : List X). old ++ flat_map f ys) (sym (take_more xs i d inside)))))
+
+-- the symbol of `lucet_tables`, from the values of its fields
+pub tables_piece : (parts : Parts) (layout : Layout) (name count : ℕ) (bytes : List ℕ) → name ≡ strings_size (function_names parts.functions) → count ≡ length parts.tables
+    → bytes ++ symbol name 0x11 1 layout.lucet_tables (16 * count) ≡ bytes ++ tables_symbol parts layout
+unfolding tables_symbol
+tables_piece parts layout name count bytes named counted' =
+    ap (λ (n : ℕ). bytes ++ symbol n 0x11 1 layout.lucet_tables (16 * count)) named
+    ∙ ap (λ (n : ℕ). bytes ++ symbol (strings_size (function_names parts.functions)) 0x11 1 layout.lucet_tables (16 * n)) counted'

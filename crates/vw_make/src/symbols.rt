@@ -91,7 +91,8 @@ pub fn put_symbols(out: &mut Vec<u8>, plan: &Plan) -> Result<(), OutOfMemory>
         value: plan.layout.lucet_tables,
         size: 16 * plan.sizes.tables,
     };
-    put_symbol(out, &entry)
+    put_symbol(out, &entry)?;
+    Ok(())
 }
 
 // Appends the symbols of the functions. Answers where the next name begins in the string table.
@@ -126,7 +127,8 @@ pub fn put_symbol_strings(out: &mut Vec<u8>, plan: &Plan) -> Result<(), OutOfMem
     if plan.parts.tables.as_slice().is_empty() {
         return Ok(());
     }
-    put_string(out, b"lucet_tables")
+    put_string(out, b"lucet_tables")?;
+    Ok(())
 }
 
 fn put_function_names(out: &mut Vec<u8>, functions: &[Func]) -> Result<(), OutOfMemory>

@@ -36,7 +36,8 @@ pub fn put_slots(out: &mut Vec<u8>, plan: &Plan) -> Result<(), OutOfMemory>
     requires { IsPlan plan.now }
     ensures { OnOk result (out.new.items ≡ out.old.items ++ slots plan.now.parts.now.imports) }
 {
-    put_zeros(out, 8 * plan.sizes.imports as usize)
+    put_zeros(out, 8 * plan.sizes.imports as usize)?;
+    Ok(())
 }
 
 /// Appends `lucet_tables`.

@@ -11,6 +11,6 @@ returns-then-is_empty c =
     rw (c.in_ok-put_function_names.ensures, c.in_ok-put.ensures, c.as_slice.ensures) (names_without c.args.plan.now.parts.now c.args.out.now.items none)
 
 pub returns : goal.returns
-returns c is_ok =
+returns c =
     let some : has_table c.args.plan.now.parts.now ≡ true = sym (ap not (c.if-is_empty.ensures ∙ ap (λ (tables : List (List (ℕ × Option ℕ))). eqb (length tables) 0) c.as_slice-2.ensures)) in
-    ?
+    rw (c.in_ok-put_string.ensures, c.in_ok-put_function_names.ensures, c.in_ok-put.ensures, c.as_slice.ensures) (names_with c.args.plan.now.parts.now c.args.out.now.items some)

@@ -12,4 +12,5 @@ overflow_mul-plan c =
 pub returns : goal.returns
 unfolding slots
 returns c =
-    ?
+    let facts = plan_facts c.requires in
+    c.in_ok-put_zeros.ensures ∙ ap (λ (n : ℕ). c.args.out.now.items ++ zeros (8 * n)) facts.sizes.imports

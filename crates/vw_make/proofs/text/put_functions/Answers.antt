@@ -25,4 +25,10 @@ pad-requires-clause-fits c =
 pub loop-number-preserved : goal.loop-number-preserved
 loop-number-preserved c =
     let placed = place_of c.requires _ c.as_slice-functions.ensures c.loop-number.number c.loop-number-test.true c.index-at.result.now c.index-at.ensures in
-    ?
+    numbered_step (function_text c.as_slice-functions.result.now c.args.plan.now.layout) c.as_slice-functions.result.now c.loop-number.number c.index-functions-number.result
+    c.args.out.now.items c.loop-number.out.items c.put.new.out.items c.as_slice.result.now c.loop-number-test.true c.loop-number.invariant c.in_ok-put.ensures
+    (c.as_slice.ensures.value
+    ∙ text_piece c.as_slice-functions.result.now c.args.plan.now.layout c.loop-number.number c.index-at.result.now c.index-functions-number.result c.in_ok-code.code.items c.pad.new.bytes.items
+      placed c.index-functions-number.is
+      (c.in_ok-code.ensures ∙ ap (λ (fs : List Func). fixed_code fs c.args.plan.now.layout c.index-at.result.now c.index-functions-number.result) (sym c.as_slice-functions.ensures))
+      c.in_ok-pad.ensures)
