@@ -13,6 +13,7 @@ use Rattle.vw_make.specs.declared.layout.Layout.{Layout}
 use Rattle.vw_make.specs.Bounds.{MeetsBounds}
 use Rattle.vw_make.specs.Bytes.{rounded_up}
 use Rattle.vw_make.specs.Layout.{strings_size, function_names, table_at, function_space, relocation_count, symbol_count, symbol_strings_size, sizes_of, layout_from, layout_of, function_at}
+use Rattle.vw_make.specs.Module.{file_of, module_bytes}
 use Rattle.vw_make.specs.Plan.{IsPlan}
 use Rattle.vw_make.specs.Small.{AreSmall}
 
@@ -229,3 +230,10 @@ pub table_more : (tables : List (List (ℕ × Option ℕ))) (layout : Layout) (i
     → table_at tables layout (i + 1) ≡ table_at tables layout i + 16 * length entries
 table_more tables layout i inside entries here =
     omega (arith, sum_by_more length tables i entries inside, ap (λ (e : List (ℕ × Option ℕ)). length e) here)
+
+-- the file, by the places that were worked out
+pub file_is : {plan : Plan} → IsPlan plan → (parts : Parts) → plan.parts.now ≡ parts → file_of plan.parts.now plan.sizes plan.layout ≡ module_bytes parts
+unfolding module_bytes
+file_is {plan} is parts same =
+    ap (λ (s : Sizes). file_of plan.parts.now s plan.layout) is.sizes
+    ∙ (ap (λ (l : Layout). file_of plan.parts.now (sizes_of plan.parts.now) l) is.layout ∙ ap (λ (p : Parts). file_of p (sizes_of p) (layout_of p)) same)
