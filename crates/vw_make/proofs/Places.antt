@@ -1,5 +1,5 @@
 -- What is known of sizes and places: each part ends before the next begins, and all is small.
-use Rattle.std.proofs.Common.{◌≡◌, ◌∙◌, ℕ, zero, suc, ◌+◌, ◌-◌, ◌*◌, ◌/◌, ◌%◌, ◌^◌, ◌<◌, ◌≤◌, List, [], Option, length, take, get_or, map, refl, sym, ap, subst, lit≤, arith}
+use Rattle.std.proofs.Common.{◌≡◌, ◌∙◌, ℕ, ◌+◌, ◌-◌, ◌*◌, ◌^◌, ◌<◌, ◌≤◌, List, [], Option, length, take, get_or, map, refl, sym, ap, subst, lit≤, arith}
 use Rattle.std.specs.List.{sum_by}
 use Rattle.std.proofs.Math.Nat.{mod-lt, le-add_right, lt_of_le_of_lt}
 use Rattle.std.proofs.lemmas.Nat.{div-add-mod'}

@@ -1,5 +1,5 @@
 -- One turn of each loop that appends the bytes of an item.
-use Rattle.std.proofs.Common.{◌≡◌, ◌∙◌, ℕ, ◌+◌, ◌*◌, ◌<◌, Bool, true, false, List, [], ◌∷◌, ◌++◌, Option, length, take, get_or, map, codes, append-nil, append_assoc, refl, sym, ap, subst, arith, if◌then◌else◌}
+use Rattle.std.proofs.Common.{◌≡◌, ◌∙◌, ℕ, ◌+◌, ◌*◌, ◌<◌, Bool, true, false, List, [], ◌∷◌, ◌++◌, Option, length, take, get_or, codes, append-nil, append_assoc, sym, ap, if◌then◌else◌}
 use Rattle.std.specs.List.{flat_map}
 use Rattle.std.proofs.lemmas.List.{flat_map_more, take_more}
 use Rattle.std.proofs.lemmas.List.Concat.{flat_map-append}
@@ -9,7 +9,7 @@ use Rattle.vw_make.specs.declared.layout.Layout.{Layout}
 use Rattle.vw_make.specs.Bytes.{counted, numbered, padded}
 use Rattle.vw_make.specs.Layout.{strings_size, function_names, has_table, function_at, table_at}
 use Rattle.vw_make.specs.Records.{symbol}
-use Rattle.vw_make.specs.Relocations.{relative, pair_relocation, entry_relocation, table_relocations}
+use Rattle.vw_make.specs.Relocations.{relative, pair_relocation}
 use Rattle.vw_make.specs.Symbols.{string, strings, string_table, name_at, null_symbol, import_symbol, function_symbol, function_symbols, tables_symbol, symbols, symbol_names}
 use Rattle.vw_make.specs.Text.{fixed_code, function_text}
 use Rattle.vw_make.proofs.Pieces.{appended, counted_more, numbered_more}

@@ -1,6 +1,6 @@
 -- How large the parts of a module are, and where each begins. An offset in the file is the address in memory
 -- too.
-use Rattle.std.specs.Prelude.{ℕ, ◌+◌, ◌*◌, ◌≤◌, Bool, ◌==◌, not, List, length, map, take, Option, is_some, if◌then◌else◌}
+use Rattle.std.specs.Prelude.{ℕ, ◌+◌, ◌*◌, Bool, ◌==◌, not, List, length, map, take, Option, is_some, if◌then◌else◌}
 use Rattle.std.specs.List.{sum_by, count_by}
 use Rattle.vw_make.specs.declared.parts.Parts.{Parts}
 use Rattle.vw_make.specs.declared.parts.Func.{Func}

@@ -1,7 +1,6 @@
 -- Places that were worked out for the parts of a module.
-use Rattle.std.specs.Prelude.{◌≡◌, ℕ, ◌<◌, List, length, slice_index}
+use Rattle.std.specs.Prelude.{◌≡◌, ℕ, ◌<◌, length, slice_index}
 use Rattle.vw_make.specs.declared.plan.Plan.{Plan}
-use Rattle.vw_make.specs.declared.parts.Parts.{Parts}
 use Rattle.vw_make.specs.Bounds.{MeetsBounds}
 use Rattle.vw_make.specs.Layout.{sizes_of, layout_of, function_at}
 

@@ -1,5 +1,5 @@
 -- Symbol tables and their string tables (System V gABI, "Symbol Table", "String Table").
-use Rattle.std.specs.Prelude.{ℕ, ◌+◌, ◌*◌, List, [], ◌∷◌, ◌++◌, length, take, codes, if◌then◌else◌}
+use Rattle.std.specs.Prelude.{ℕ, ◌*◌, List, [], ◌∷◌, ◌++◌, length, take, codes, if◌then◌else◌}
 use Rattle.std.specs.List.{flat_map}
 use Rattle.vw_make.specs.declared.parts.Parts.{Parts}
 use Rattle.vw_make.specs.declared.parts.Func.{Func}

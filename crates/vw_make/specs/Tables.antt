@@ -1,6 +1,6 @@
 -- What the second segment holds: slots, `lucet_tables`, the tables, the data, the dynamic section. Words that
 -- are relocated are 0 in the file.
-use Rattle.std.specs.Prelude.{ℕ, ◌+◌, ◌-◌, ◌*◌, ◌^◌, List, ◌++◌, length, Option, Some, None}
+use Rattle.std.specs.Prelude.{ℕ, ◌-◌, ◌*◌, ◌^◌, List, ◌++◌, length, Option, Some, None}
 use Rattle.std.specs.List.{flat_map}
 use Rattle.byteorder.specs.Endian.{little_bytes}
 use Rattle.vw_make.specs.declared.parts.Parts.{Parts}

@@ -1,5 +1,5 @@
 -- The text: functions and import stubs, each begun at a multiple of 16 and padded with 0xCC (INT3).
-use Rattle.std.specs.Prelude.{ℕ, ◌+◌, ◌*◌, List, ◌∷◌, ◌++◌, length}
+use Rattle.std.specs.Prelude.{ℕ, ◌+◌, List, ◌∷◌, ◌++◌, length}
 use Rattle.byteorder.specs.Endian.{little_bytes}
 use Rattle.vw_make.specs.declared.parts.Parts.{Parts}
 use Rattle.vw_make.specs.declared.parts.Func.{Func}

@@ -1,4 +1,4 @@
-use Rattle.std.proofs.Common.{◌≡◌, ◌+◌, ◌++◌, take}
+use Rattle.std.proofs.Common.{◌≡◌, ◌++◌, take}
 use Rattle.std.specs.List.{flat_map}
 use Rattle.vw_make.specs.Relocations.{bind_relocation}
 use Rattle.vw_make.proofs.relocations.put_bind_relocations.Given as goal

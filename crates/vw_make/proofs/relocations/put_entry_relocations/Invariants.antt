@@ -1,4 +1,4 @@
-use Rattle.std.proofs.Common.{◌≡◌, ℕ, ◌+◌, ◌++◌, List, Option, take}
+use Rattle.std.proofs.Common.{◌≡◌, ℕ, ◌++◌, List, Option, take}
 use Rattle.vw_make.specs.Layout.{table_at}
 use Rattle.vw_make.specs.Bytes.{numbered}
 use Rattle.vw_make.specs.Relocations.{table_relocations}

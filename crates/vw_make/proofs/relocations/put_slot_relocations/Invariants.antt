@@ -1,4 +1,4 @@
-use Rattle.std.proofs.Common.{◌≡◌, ◌+◌, ◌++◌}
+use Rattle.std.proofs.Common.{◌≡◌, ◌++◌}
 use Rattle.vw_make.specs.Bytes.{counted}
 use Rattle.vw_make.specs.Relocations.{slot_relocation}
 use Rattle.vw_make.proofs.relocations.put_slot_relocations.Given as goal

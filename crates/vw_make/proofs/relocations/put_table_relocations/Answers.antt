@@ -1,4 +1,4 @@
-use Rattle.std.proofs.Common.{ℕ, Option, None, get_or, ◌+◌, ◌*◌, sym, ap, arith}
+use Rattle.std.proofs.Common.{ℕ, Option, None, get_or, ◌+◌, ◌*◌, ap, arith}
 use Rattle.vw_make.specs.Relocations.{entry_relocation}
 use Rattle.vw_make.proofs.Steps.{numbered_step}
 use Rattle.vw_make.proofs.relocations.put_table_relocations.Goals as goal

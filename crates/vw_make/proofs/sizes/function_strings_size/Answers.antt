@@ -1,6 +1,5 @@
 use Rattle.std.proofs.Common.{List, ℕ, length, ap, arith}
-use Rattle.vw_make.specs.declared.parts.Func.{Func}
-use Rattle.vw_make.proofs.Places.{function_names_le, function_names_more}
+use Rattle.vw_make.proofs.Places.{function_names_le}
 use Rattle.vw_make.proofs.sizes.function_strings_size.Goals as goal
 
 pub overflow_add-size-in-loop-func : goal.overflow_add-size-in-loop-func

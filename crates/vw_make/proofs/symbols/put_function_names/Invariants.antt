@@ -1,4 +1,4 @@
-use Rattle.std.proofs.Common.{◌≡◌, ◌+◌, ◌++◌, take}
+use Rattle.std.proofs.Common.{◌≡◌, ◌++◌, take}
 use Rattle.vw_make.specs.Layout.{function_names}
 use Rattle.vw_make.specs.Symbols.{strings}
 use Rattle.vw_make.proofs.symbols.put_function_names.Given as goal

@@ -1,4 +1,4 @@
-use Rattle.std.proofs.Common.{◌≡◌, ◌+◌, ◌++◌, take}
+use Rattle.std.proofs.Common.{◌≡◌, ◌++◌, take}
 use Rattle.vw_make.specs.Layout.{strings_size, function_names}
 use Rattle.vw_make.specs.Bytes.{numbered}
 use Rattle.vw_make.specs.Symbols.{function_symbol}

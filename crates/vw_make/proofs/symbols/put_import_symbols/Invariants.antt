@@ -1,4 +1,4 @@
-use Rattle.std.proofs.Common.{◌≡◌, ◌+◌, ◌++◌, take}
+use Rattle.std.proofs.Common.{◌≡◌, ◌++◌, take}
 use Rattle.vw_make.specs.Layout.{strings_size}
 use Rattle.vw_make.specs.Bytes.{counted}
 use Rattle.vw_make.specs.Symbols.{import_symbol}

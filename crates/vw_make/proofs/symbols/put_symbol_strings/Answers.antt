@@ -1,7 +1,5 @@
-use Rattle.std.proofs.Common.{◌≡◌, ◌∙◌, Bool, true, false, not, ℕ, List, Option, length, ap, sym, eqb}
-use Rattle.vw_make.specs.declared.parts.Func.{Func}
-use Rattle.vw_make.specs.Layout.{has_table, function_names}
-use Rattle.vw_make.specs.Symbols.{strings}
+use Rattle.std.proofs.Common.{◌≡◌, ◌∙◌, true, false, not, ℕ, List, Option, length, ap, sym, eqb}
+use Rattle.vw_make.specs.Layout.{has_table}
 use Rattle.vw_make.proofs.Steps.{names_with, names_without}
 use Rattle.vw_make.proofs.symbols.put_symbol_strings.Goals as goal
 

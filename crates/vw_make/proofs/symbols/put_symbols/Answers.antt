@@ -1,5 +1,5 @@
-use Rattle.std.proofs.Common.{◌≡◌, ◌∙◌, Bool, true, false, not, ℕ, List, Option, length, ap, sym, eqb, arith}
-use Rattle.vw_make.specs.Layout.{has_table, function_names}
+use Rattle.std.proofs.Common.{◌≡◌, ◌∙◌, true, false, not, ℕ, List, Option, length, ap, sym, eqb, arith}
+use Rattle.vw_make.specs.Layout.{has_table}
 use Rattle.vw_make.proofs.Places.{plan_facts}
 use Rattle.vw_make.proofs.Steps.{symbols_with, tables_piece, symbols_without}
 use Rattle.vw_make.proofs.symbols.put_symbols.Goals as goal

@@ -1,4 +1,4 @@
-use Rattle.std.proofs.Common.{◌≡◌, ◌∙◌, ◌*◌, ◌++◌, ℕ, ap, arith}
+use Rattle.std.proofs.Common.{◌∙◌, ◌*◌, ◌++◌, ℕ, ap, arith}
 use Rattle.vw_make.specs.Bytes.{zeros}
 use Rattle.vw_make.specs.Tables.{slots}
 use Rattle.vw_make.proofs.Places.{plan_facts}

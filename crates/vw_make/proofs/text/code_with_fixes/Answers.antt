@@ -1,4 +1,4 @@
-use Rattle.std.proofs.Common.{ℕ, ◌≡◌, ◌∙◌, ◌+◌, ◌*◌, List, length, get_or, sym, ap, subst, arith}
+use Rattle.std.proofs.Common.{ℕ, ◌∙◌, ◌+◌, List, length, get_or, sym, ap, subst, arith}
 use Rattle.std.specs.List.{AllPairs}
 use Rattle.byteorder.specs.Endian.{little_bytes}
 use Rattle.vw_make.specs.declared.parts.Target.{Target}

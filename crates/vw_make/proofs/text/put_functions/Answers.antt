@@ -1,4 +1,4 @@
-use Rattle.std.proofs.Common.{ℕ, List, ◌≡◌, ◌∙◌, ◌≤◌, length, ap, sym, arith}
+use Rattle.std.proofs.Common.{List, ◌∙◌, length, ap, sym, arith}
 use Rattle.vw_make.specs.Bounds.{FuncFits}
 use Rattle.vw_make.specs.declared.parts.Func.{Func}
 use Rattle.vw_make.specs.Text.{fix_field, fixed_code, function_text}

@@ -1,4 +1,4 @@
-use Rattle.std.proofs.Common.{◌≡◌, ◌+◌, ◌++◌, take}
+use Rattle.std.proofs.Common.{◌≡◌, ◌++◌, take}
 use Rattle.vw_make.specs.Bytes.{numbered}
 use Rattle.vw_make.specs.Text.{function_text}
 use Rattle.vw_make.proofs.text.put_functions.Given as goal

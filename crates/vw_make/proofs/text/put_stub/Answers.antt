@@ -1,4 +1,4 @@
-use Rattle.std.proofs.Common.{◌≡◌, ◌∙◌, ◌++◌, ◌∷◌, [], ℕ, List, ap}
+use Rattle.std.proofs.Common.{◌∙◌, ◌++◌, ◌∷◌, [], ℕ, ap}
 use Rattle.byteorder.specs.Endian.{little_bytes}
 use Rattle.vw_make.specs.Bytes.{rounded_up}
 use Rattle.vw_make.proofs.Pieces.{joined_three}

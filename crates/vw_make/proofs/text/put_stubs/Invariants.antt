@@ -1,4 +1,4 @@
-use Rattle.std.proofs.Common.{◌≡◌, ◌+◌, ◌++◌}
+use Rattle.std.proofs.Common.{◌≡◌, ◌++◌}
 use Rattle.vw_make.specs.Bytes.{counted}
 use Rattle.vw_make.specs.Text.{stub_text}
 use Rattle.vw_make.proofs.text.put_stubs.Given as goal

@@ -1,6 +1,5 @@
-use Rattle.std.proofs.Common.{◌≡◌, ◌∙◌, ◌<◌, ◌*◌, ◌^◌, ℕ, length, subst, arith, refl}
+use Rattle.std.proofs.Common.{◌<◌, ◌*◌, length, subst, arith, refl}
 use Rattle.vw_make.specs.declared.parts.Target.{Target}
-use Rattle.vw_make.specs.declared.parts.Target.TheVariants.{Function, Stub, Tables, Data}
 use Rattle.vw_make.specs.Bounds.{IsThere}
 use Rattle.vw_make.proofs.Places.{plan_facts, place_of, function_fits}
 use Rattle.vw_make.proofs.text.target_address.Goals as goal
