@@ -129,10 +129,10 @@ pub fields_step : {X : Type 0} (field : ℕ × X → List ℕ) (size : ℕ) (ite
 fields_step {X} field size items i d bytes now new piece inside sized fits apart before same written =
     let front : length (take i items) ≡ i = length-take-le i items (omega arith) in
     let others : (j : ℕ) (e : ℕ × X) → j < length (take i items) → AreApart size (get_or (take i items) j e) (get_or items i d) =
-      λ j e below.
-        subst (λ (x : ℕ × X). AreApart size (get_or (take i items) j e) x) (get_or_default items i e d inside)
-        (subst (λ (x : ℕ × X). AreApart size x (get_or items i e)) (sym (get_or-take i items j e (omega arith))) (apart j i e (omega arith) inside))
-      in
+    λ j e below.
+    subst (λ (x : ℕ × X). AreApart size (get_or (take i items) j e) x) (get_or_default items i e d inside)
+    (subst (λ (x : ℕ × X). AreApart size x (get_or items i e)) (sym (get_or-take i items j e (omega arith))) (apart j i e (omega arith) inside))
+    in
     written
     ∙ (ap (λ (p : List ℕ). put_at (get_or items i d).0 p now) same
     ∙ (ap (λ (n : List ℕ). put_at (get_or items i d).0 (field (get_or items i d)) n) before

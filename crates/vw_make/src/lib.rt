@@ -16,3 +16,6 @@ mod write;
 
 pub use parts::{Func, Parts, Target};
 pub use write::write_module;
+
+#[cfg(test)]
+mod tests;

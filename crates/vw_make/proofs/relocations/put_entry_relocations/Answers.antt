@@ -23,10 +23,10 @@ loop-entries-preserved c =
     record {
       table = omega (arith, more, c.loop-entries.invariant.table, ap (λ (e : List (ℕ × Option ℕ)). length e) c.as_slice-in-loop-entries.ensures);
       bytes =
-        numbered_step
-        (λ (number : ℕ) (entries : List (ℕ × Option ℕ)). table_relocations c.args.plan.now.parts.now.functions c.args.plan.now.layout (table_at c.as_slice-tables.result.now c.args.plan.now.layout number) entries)
-        c.as_slice-tables.result.now c.loop-entries.entries-index c.entries-item.result c.args.out.now.items c.loop-entries.out.items c.put_table_relocations.new.out.items _
-        c.loop-entries-test.true c.loop-entries.invariant.bytes c.in_ok-put_table_relocations.ensures
-        (ap (λ (at : ℕ). table_relocations c.args.plan.now.parts.now.functions c.args.plan.now.layout at c.as_slice.result.now) c.loop-entries.invariant.table
-        ∙ ap (λ (entries : List (ℕ × Option ℕ)). table_relocations c.args.plan.now.parts.now.functions c.args.plan.now.layout (table_at c.as_slice-tables.result.now c.args.plan.now.layout c.loop-entries.entries-index) entries) (c.as_slice.ensures ∙ c.entries-item.is));
+          numbered_step
+          (λ (number : ℕ) (entries : List (ℕ × Option ℕ)). table_relocations c.args.plan.now.parts.now.functions c.args.plan.now.layout (table_at c.as_slice-tables.result.now c.args.plan.now.layout number) entries)
+          c.as_slice-tables.result.now c.loop-entries.entries-index c.entries-item.result c.args.out.now.items c.loop-entries.out.items c.put_table_relocations.new.out.items _
+          c.loop-entries-test.true c.loop-entries.invariant.bytes c.in_ok-put_table_relocations.ensures
+          (ap (λ (at : ℕ). table_relocations c.args.plan.now.parts.now.functions c.args.plan.now.layout at c.as_slice.result.now) c.loop-entries.invariant.table
+          ∙ ap (λ (entries : List (ℕ × Option ℕ)). table_relocations c.args.plan.now.parts.now.functions c.args.plan.now.layout (table_at c.as_slice-tables.result.now c.args.plan.now.layout c.loop-entries.entries-index) entries) (c.as_slice.ensures ∙ c.entries-item.is));
     }

@@ -22,7 +22,7 @@ loop-entries-preserved c =
       pair = omega (arith, c.loop-entries.invariant.pair);
       table = omega (arith, more, c.loop-entries.invariant.table, ap (λ (e : List (ℕ × Option ℕ)). length e) c.as_slice.ensures);
       bytes =
-        counted_step (pair_relocation c.as_slice-tables.result.now c.args.plan.now.layout) c.loop-entries.entries-index c.args.out.now.items c.loop-entries.out.items c.put_relative.new.out.items _
-        c.loop-entries.invariant.bytes c.in_ok-put_relative.ensures
-        (pair_piece c.as_slice-tables.result.now c.args.plan.now.layout c.loop-entries.entries-index c.loop-entries.pair c.loop-entries.table c.loop-entries.invariant.pair c.loop-entries.invariant.table);
+          counted_step (pair_relocation c.as_slice-tables.result.now c.args.plan.now.layout) c.loop-entries.entries-index c.args.out.now.items c.loop-entries.out.items c.put_relative.new.out.items _
+          c.loop-entries.invariant.bytes c.in_ok-put_relative.ensures
+          (pair_piece c.as_slice-tables.result.now c.args.plan.now.layout c.loop-entries.entries-index c.loop-entries.pair c.loop-entries.table c.loop-entries.invariant.pair c.loop-entries.invariant.table);
     }

@@ -20,7 +20,7 @@ loop-number-preserved c =
     record {
       name = omega (arith, more, c.loop-number.invariant.name, ap (λ (name : List ℕ). length name) c.as_slice-in-loop-number.ensures);
       bytes =
-        numbered_step (function_symbol c.as_slice-functions.result.now c.args.plan.now.layout) c.as_slice-functions.result.now c.loop-number.number c.index-functions-number.result
-        c.args.out.now.items c.loop-number.out.items c.put_symbol.new.out.items _ c.loop-number-test.true c.loop-number.invariant.bytes c.in_ok-put_symbol.ensures
-        (function_piece c.as_slice-functions.result.now c.args.plan.now.layout c.loop-number.number c.loop-number.name c.index.result.now c.as_slice.result.now c.index-functions-number.result c.loop-number.invariant.name placed c.as_slice.ensures c.index-functions-number.is);
+          numbered_step (function_symbol c.as_slice-functions.result.now c.args.plan.now.layout) c.as_slice-functions.result.now c.loop-number.number c.index-functions-number.result
+          c.args.out.now.items c.loop-number.out.items c.put_symbol.new.out.items _ c.loop-number-test.true c.loop-number.invariant.bytes c.in_ok-put_symbol.ensures
+          (function_piece c.as_slice-functions.result.now c.args.plan.now.layout c.loop-number.number c.loop-number.name c.index.result.now c.as_slice.result.now c.index-functions-number.result c.loop-number.invariant.name placed c.as_slice.ensures c.index-functions-number.is);
     }

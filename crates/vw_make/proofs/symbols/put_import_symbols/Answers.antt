@@ -10,7 +10,7 @@ loop-import-preserved c =
     record {
       name = omega (arith, more, c.loop-import.invariant.name, ap (λ (name : List ℕ). length name) c.as_slice.ensures, ap (λ (name : List ℕ). length name) c.import-item.is);
       bytes =
-        counted_step (import_symbol c.args.imports.now) c.loop-import.import-index c.args.out.now.items c.loop-import.out.items c.put_symbol.new.out.items _
-        c.loop-import.invariant.bytes c.in_ok-put_symbol.ensures
-        (import_piece c.args.imports.now c.loop-import.import-index c.loop-import.name c.loop-import.invariant.name);
+          counted_step (import_symbol c.args.imports.now) c.loop-import.import-index c.args.out.now.items c.loop-import.out.items c.put_symbol.new.out.items _
+          c.loop-import.invariant.bytes c.in_ok-put_symbol.ensures
+          (import_piece c.args.imports.now c.loop-import.import-index c.loop-import.name c.loop-import.invariant.name);
     }

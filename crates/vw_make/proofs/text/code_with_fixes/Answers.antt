@@ -29,5 +29,5 @@ loop-fix-preserved c =
     c.loop-fix.invariant
     (c.to_le_bytes-field.ensures
     ∙ ap (λ (d : ℕ). little_bytes 4 d)
-      (c.distance.ensures ∙ ap (λ (target : ℕ). difference target (c.args.at + (get_or c.as_slice-fixes.result.now c.loop-fix.fix-index (0, Function 0)).0 + 4)) c.target_address.ensures.value))
+    (c.distance.ensures ∙ ap (λ (target : ℕ). difference target (c.args.at + (get_or c.as_slice-fixes.result.now c.loop-fix.fix-index (0, Function 0)).0 + 4)) c.target_address.ensures.value))
     c.write_at.ensures

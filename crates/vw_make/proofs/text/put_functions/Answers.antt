@@ -29,6 +29,6 @@ loop-number-preserved c =
     c.args.out.now.items c.loop-number.out.items c.put.new.out.items c.as_slice.result.now c.loop-number-test.true c.loop-number.invariant c.in_ok-put.ensures
     (c.as_slice.ensures.value
     ∙ text_piece c.as_slice-functions.result.now c.args.plan.now.layout c.loop-number.number c.index-at.result.now c.index-functions-number.result c.in_ok-code.code.items c.pad.new.bytes.items
-      placed c.index-functions-number.is
-      (c.in_ok-code.ensures ∙ ap (λ (fs : List Func). fixed_code fs c.args.plan.now.layout c.index-at.result.now c.index-functions-number.result) (sym c.as_slice-functions.ensures))
-      c.in_ok-pad.ensures)
+    placed c.index-functions-number.is
+    (c.in_ok-code.ensures ∙ ap (λ (fs : List Func). fixed_code fs c.args.plan.now.layout c.index-at.result.now c.index-functions-number.result) (sym c.as_slice-functions.ensures))
+    c.in_ok-pad.ensures)
