@@ -2,3 +2,4 @@ pub mod Pieces
 pub mod FieldLemmas
 pub mod Places
 pub mod Steps
+pub mod Sample

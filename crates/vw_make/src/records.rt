@@ -41,13 +41,15 @@ pub struct ProgramHeader {
 pub fn put_program_header(out: &mut Vec<u8>, header: &ProgramHeader) -> Result<(), OutOfMemory>
     ensures { OnOk result (out.new.items ≡ out.old.items ++ program_header header.now.kind header.now.flags header.now.at header.now.size header.now.align) }
 {
+    let file_size = header.size;
+    let memory_size = header.size;
     put_u32(out, header.kind)?;
     put_u32(out, header.flags)?;
     put_u64(out, header.at)?;
     put_u64(out, header.at)?;
     put_u64(out, 0)?;
-    put_u64(out, header.size)?;
-    put_u64(out, header.size)?;
+    put_u64(out, file_size)?;
+    put_u64(out, memory_size)?;
     put_u64(out, header.align)?;
     Ok(())
 }

@@ -124,7 +124,8 @@ pub fn put_symbol_strings(out: &mut Vec<u8>, plan: &Plan) -> Result<(), OutOfMem
 {
     put(out, &[0])?;
     put_function_names(out, plan.parts.functions.as_slice())?;
-    if plan.parts.tables.as_slice().is_empty() {
+    let tables = plan.parts.tables.as_slice();
+    if tables.is_empty() {
         return Ok(());
     }
     put_string(out, b"lucet_tables")?;
