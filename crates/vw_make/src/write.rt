@@ -1,5 +1,6 @@
-ghost use Rattle.std.specs.Prelude.{◌≡◌, ◌+◌, ◌≤◌, ◌<◌, ◌^◌, ◌++◌, IfOk, OnOk};
+ghost use Rattle.std.specs.Prelude.{◌≡◌, ◌+◌, ◌≤◌, ◌<◌, ◌^◌, ◌++◌, length, IfOk, OnOk};
 ghost use Rattle.vw_make.specs.Bounds.{MeetsBounds};
+ghost use Rattle.vw_make.specs.Layout.{file_size};
 ghost use Rattle.vw_make.specs.Module.{program_headers, section_headers, front, with_text, with_dynamic, file_of, module_bytes};
 ghost use Rattle.vw_make.specs.Plan.{IsPlan};
 
@@ -41,7 +42,8 @@ const SHT_STRTAB: u32 = 3;
 /// those of `module_bytes`.
 pub fn write_module(alloc: Global, parts: &Parts) -> Result<List<u8>, OutOfMemory>
     requires { MeetsBounds parts.now }
-    ensures { IfOk result (λ file. file ≡ module_bytes parts.now) }
+    ensures bytes { IfOk result (λ file. file ≡ module_bytes parts.now) }
+    ensures size { IfOk result (λ file. length file ≡ file_size parts.now) }
 {
     let plan = make_plan(alloc, parts)?;
     let file = whole_file(alloc, &plan)?;
