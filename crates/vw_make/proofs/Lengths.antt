@@ -1,6 +1,6 @@
 -- How long the pieces of a file are, and the file itself.
-use Rattle.std.proofs.Common.{◌≡◌, ◌∙◌, ℕ, zero, suc, ◌+◌, ◌-◌, ◌*◌, ◌≤◌, Bool, true, false, List, [], ◌∷◌, ◌++◌, Option, Some, None, length, map, replicate, codes, refl, sym, ap, length-append, lit≤, arith, if◌then◌else◌}
-use Rattle.std.specs.List.{sum_by, flat_map, count_by}
+use Rattle.std.proofs.Common.{◌≡◌, ◌∙◌, ℕ, zero, suc, ◌+◌, ◌-◌, ◌*◌, ◌≤◌, Bool, true, false, List, [], ◌∷◌, ◌++◌, Option, Some, None, length, replicate, codes, refl, sym, ap, length-append, lit≤, arith, if◌then◌else◌}
+use Rattle.std.specs.List.{sum_by, flat_map}
 use Rattle.std.specs.Option.{is_some}
 use Rattle.std.proofs.Math.ListN.{length-replicate}
 use Rattle.std.proofs.Math.Nat.{mul-suc, mul-zero, mul-add}
@@ -9,8 +9,7 @@ use Rattle.vw_make.specs.declared.parts.Parts.{Parts}
 use Rattle.vw_make.specs.declared.parts.Func.{Func}
 use Rattle.vw_make.specs.declared.sizes.Sizes.{Sizes}
 use Rattle.vw_make.specs.declared.layout.Layout.{Layout}
-use Rattle.vw_make.specs.Bounds.{MeetsBounds}
-use Rattle.vw_make.specs.Bytes.{zeros, rounded_up, filled_to, padded, counted, numbered, with_fields}
+use Rattle.vw_make.specs.Bytes.{zeros, rounded_up, filled_to, padded, counted, numbered}
 use Rattle.vw_make.specs.Records.{file_header, program_header, symbol, relocation, dynamic_entry, section_header}
 use Rattle.vw_make.specs.Layout.{strings_size, function_names, function_space, has_table, filled_entries, relocation_count, symbol_count, symbol_strings_size, sizes_of, layout_of, file_size, function_at, table_at}
 use Rattle.vw_make.specs.Symbols.{string, string_table, null_symbol, import_symbol, import_symbols, dynamic_symbols, function_symbol, function_symbols, tables_symbol, symbols, symbol_names}
@@ -117,11 +116,16 @@ length-bind_relocations binds layout = length-joined (bind_relocation layout) (�
 length-relocations : (parts : Parts) (layout : Layout) → length (relocations parts layout) ≡ 24 * relocation_count parts
 unfolding relocations
 length-relocations parts layout =
-    omega (arith,
-    length-append (slot_relocations parts.imports layout ++ pair_relocations parts.tables layout ++ entry_relocations parts.functions parts.tables layout) (bind_relocations parts.binds layout),
-    length-append (slot_relocations parts.imports layout ++ pair_relocations parts.tables layout) (entry_relocations parts.functions parts.tables layout),
-    length-append (slot_relocations parts.imports layout) (pair_relocations parts.tables layout),
-    length-slot_relocations parts.imports layout, length-pair_relocations parts.tables layout, length-entry_relocations parts.functions parts.tables layout, length-bind_relocations parts.binds layout)
+    omega (
+      arith,
+      length-append (slot_relocations parts.imports layout ++ pair_relocations parts.tables layout ++ entry_relocations parts.functions parts.tables layout) (bind_relocations parts.binds layout),
+      length-append (slot_relocations parts.imports layout ++ pair_relocations parts.tables layout) (entry_relocations parts.functions parts.tables layout),
+      length-append (slot_relocations parts.imports layout) (pair_relocations parts.tables layout),
+      length-slot_relocations parts.imports layout,
+      length-pair_relocations parts.tables layout,
+      length-entry_relocations parts.functions parts.tables layout,
+      length-bind_relocations parts.binds layout,
+    )
 
 length-function_text : (functions : List Func) (layout : Layout) (k : ℕ) (f : Func) → length (function_text functions layout k f) ≡ function_space f
 unfolding fixed_code
@@ -136,9 +140,12 @@ length-stub_text layout k = refl
 length-text : (parts : Parts) (layout : Layout) → length (text parts layout) ≡ sum_by function_space parts.functions + 16 * length parts.imports
 unfolding text function_texts stub_texts
 length-text parts layout =
-    omega (arith, length-append (numbered (function_text parts.functions layout) 0 parts.functions) (counted (stub_text layout) (length parts.imports)),
-    length-numbered (function_text parts.functions layout) function_space (length-function_text parts.functions layout) 0 parts.functions,
-    length-counted (stub_text layout) 16 (length-stub_text layout) (length parts.imports))
+    omega (
+      arith,
+      length-append (numbered (function_text parts.functions layout) 0 parts.functions) (counted (stub_text layout) (length parts.imports)),
+      length-numbered (function_text parts.functions layout) function_space (length-function_text parts.functions layout) 0 parts.functions,
+      length-counted (stub_text layout) 16 (length-stub_text layout) (length parts.imports),
+    )
 
 length-pairs : (tables : List (List (ℕ × Option ℕ))) → length (pairs tables) ≡ 16 * length tables
 unfolding pairs
@@ -177,10 +184,15 @@ length-tables_symbol parts layout = length-symbol _ _ _ _ _
 length-symbols : (parts : Parts) (layout : Layout) → length (symbols parts layout) ≡ 24 * symbol_count parts
 unfolding symbols function_symbols
 length-symbols parts layout =
-    omega (arith, length-append (null_symbol ++ numbered (function_symbol parts.functions layout) 0 parts.functions) (if has_table parts then tables_symbol parts layout else []),
-    length-append null_symbol (numbered (function_symbol parts.functions layout) 0 parts.functions), length-symbol 0 0 0 0 0,
-    length-numbered (function_symbol parts.functions layout) (λ (f : Func). 24) (λ k f. length-symbol _ _ _ _ _) 0 parts.functions, sum_by_same 24 parts.functions,
-    choice_length (has_table parts) (tables_symbol parts layout) (length-tables_symbol parts layout))
+    omega (
+      arith,
+      length-append (null_symbol ++ numbered (function_symbol parts.functions layout) 0 parts.functions) (if has_table parts then tables_symbol parts layout else []),
+      length-append null_symbol (numbered (function_symbol parts.functions layout) 0 parts.functions),
+      length-symbol 0 0 0 0 0,
+      length-numbered (function_symbol parts.functions layout) (λ (f : Func). 24) (λ k f. length-symbol _ _ _ _ _) 0 parts.functions,
+      sum_by_same 24 parts.functions,
+      choice_length (has_table parts) (tables_symbol parts layout) (length-tables_symbol parts layout),
+    )
 
 choice_size : (b : Bool) (names : List (List ℕ)) → strings_size (names ++ (if b then codes "lucet_tables" ∷ [] else [])) ≡ strings_size names + (if b then 13 else 0)
 choice_size true names = omega (arith, sum_by-append (λ (name : List ℕ). length name + 1) names (codes "lucet_tables" ∷ []))
@@ -194,16 +206,21 @@ length-symbol_strings parts = length-string_table (symbol_names parts) ∙ choic
 length-front : (parts : Parts) (layout : Layout) → length (front parts layout) ≡ 232 + 24 * (1 + length parts.imports) + strings_size parts.imports
 unfolding front
 length-front parts layout =
-    omega (arith, length-append (file_header layout.sections ++ program_headers layout ++ dynamic_symbols parts.imports) (string_table parts.imports),
-    length-append (file_header layout.sections ++ program_headers layout) (dynamic_symbols parts.imports), length-headers layout.sections layout,
-    length-dynamic_symbols parts.imports, length-string_table parts.imports)
+    omega (
+      arith,
+      length-append (file_header layout.sections ++ program_headers layout ++ dynamic_symbols parts.imports) (string_table parts.imports),
+      length-append (file_header layout.sections ++ program_headers layout) (dynamic_symbols parts.imports),
+      length-headers layout.sections layout,
+      length-dynamic_symbols parts.imports,
+      length-string_table parts.imports,
+    )
 
 length-with_text : (parts : Parts) (size : Sizes) (layout : Layout) → AreSizesOf parts size → AreOrdered size layout → length (with_text parts layout) ≡ layout.text_end
 unfolding with_text
 length-with_text parts size layout sizes ordered =
     let one = length-filled_to layout.relocations (front parts layout) (omega (arith, length-front parts layout)) in
     let two : length (filled_to layout.relocations (front parts layout) ++ relocations parts layout) ≡ layout.relocations + size.relocations =
-      omega (arith, one, length-append (filled_to layout.relocations (front parts layout)) (relocations parts layout), length-relocations parts layout, sizes.relocations) in
+    omega (arith, one, length-append (filled_to layout.relocations (front parts layout)) (relocations parts layout), length-relocations parts layout, sizes.relocations) in
     let three = length-filled_to layout.text (filled_to layout.relocations (front parts layout) ++ relocations parts layout) (omega (arith, two)) in
     omega (arith, three, length-append (filled_to layout.text (filled_to layout.relocations (front parts layout) ++ relocations parts layout)) (text parts layout), length-text parts layout, sizes.functions, sizes.imports)
 
@@ -211,20 +228,39 @@ length-with_dynamic : (parts : Parts) (size : Sizes) (layout : Layout) → AreSi
 unfolding with_dynamic
 length-with_dynamic parts size layout sizes ordered =
     let one = length-filled_to layout.slots (with_text parts layout) (omega (arith, length-with_text parts size layout sizes ordered)) in
-    omega (arith, one,
-    length-append (filled_to layout.slots (with_text parts layout) ++ slots parts.imports ++ pairs parts.tables ++ tables parts.tables ++ padded_content parts) (dynamic_section size layout),
-    length-append (filled_to layout.slots (with_text parts layout) ++ slots parts.imports ++ pairs parts.tables ++ tables parts.tables) (padded_content parts),
-    length-append (filled_to layout.slots (with_text parts layout) ++ slots parts.imports ++ pairs parts.tables) (tables parts.tables),
-    length-append (filled_to layout.slots (with_text parts layout) ++ slots parts.imports) (pairs parts.tables),
-    length-append (filled_to layout.slots (with_text parts layout)) (slots parts.imports),
-    length-slots parts.imports, length-pairs parts.tables, length-tables parts.tables, length-padded_content parts, length-dynamic_section size layout, sizes.imports, sizes.tables, sizes.entries, sizes.content)
+    omega (
+      arith,
+      one,
+      length-append (filled_to layout.slots (with_text parts layout) ++ slots parts.imports ++ pairs parts.tables ++ tables parts.tables ++ padded_content parts) (dynamic_section size layout),
+      length-append (filled_to layout.slots (with_text parts layout) ++ slots parts.imports ++ pairs parts.tables ++ tables parts.tables) (padded_content parts),
+      length-append (filled_to layout.slots (with_text parts layout) ++ slots parts.imports ++ pairs parts.tables) (tables parts.tables),
+      length-append (filled_to layout.slots (with_text parts layout) ++ slots parts.imports) (pairs parts.tables),
+      length-append (filled_to layout.slots (with_text parts layout)) (slots parts.imports),
+      length-slots parts.imports,
+      length-pairs parts.tables,
+      length-tables parts.tables,
+      length-padded_content parts,
+      length-dynamic_section size layout,
+      sizes.imports,
+      sizes.tables,
+      sizes.entries,
+      sizes.content,
+    )
 
 length-file_of : (parts : Parts) (size : Sizes) (layout : Layout) → AreSizesOf parts size → AreOrdered size layout → length (file_of parts size layout) ≡ layout.sections + 192
 unfolding file_of
 length-file_of parts size layout sizes ordered =
     let one : length (with_dynamic parts size layout ++ symbols parts layout ++ string_table (symbol_names parts)) ≡ layout.strings + size.strings =
-      omega (arith, length-append (with_dynamic parts size layout ++ symbols parts layout) (string_table (symbol_names parts)), length-append (with_dynamic parts size layout) (symbols parts layout),
-      length-with_dynamic parts size layout sizes ordered, length-symbols parts layout, length-symbol_strings parts, sizes.symbols, sizes.strings) in
+    omega (
+      arith,
+      length-append (with_dynamic parts size layout ++ symbols parts layout) (string_table (symbol_names parts)),
+      length-append (with_dynamic parts size layout) (symbols parts layout),
+      length-with_dynamic parts size layout sizes ordered,
+      length-symbols parts layout,
+      length-symbol_strings parts,
+      sizes.symbols,
+      sizes.strings,
+    ) in
     let two = length-filled_to layout.sections (with_dynamic parts size layout ++ symbols parts layout ++ string_table (symbol_names parts)) (omega (arith, one)) in
     omega (arith, two, length-append (filled_to layout.sections (with_dynamic parts size layout ++ symbols parts layout ++ string_table (symbol_names parts))) (section_headers size layout), length-section_headers size layout)
 

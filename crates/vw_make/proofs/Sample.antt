@@ -1,9 +1,8 @@
 -- The parts of the test meet the bounds.
-use Rattle.std.proofs.Common.{◌≡◌, ℕ, zero, suc, ◌+◌, ◌<◌, ◌≤◌, List, [], ◌∷◌, Option, Some, None, length, get_or, inl, refl, lit<, lit≤, arith}
+use Rattle.std.proofs.Common.{ℕ, zero, suc, ◌≤◌, List, [], ◌∷◌, Option, Some, None, length, inl, refl, lit<, lit≤, arith}
 use Rattle.std.specs.List.{All, AllPairs, Contains}
 use Rattle.vw_make.specs.declared.parts.Parts.{Parts}
 use Rattle.vw_make.specs.declared.parts.Func.{Func}
-use Rattle.vw_make.specs.declared.parts.Target.{Target}
 use Rattle.vw_make.specs.declared.parts.Target.TheVariants.{Stub, Tables}
 use Rattle.vw_make.specs.Bounds.{AreApart, EntryFits, FixFits, FuncFits, TableFits, BindFits, HasAtMost, MeetsBounds}
 use Rattle.vw_make.specs.Bytes.{rounded_up}

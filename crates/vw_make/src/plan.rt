@@ -45,7 +45,8 @@ pub fn make_plan(alloc: Global, parts: &Parts) -> Result<Plan<'_>, OutOfMemory>
 fn function_places(alloc: Global, functions: &[Func], text: u64) -> Result<Vec<u64>, OutOfMemory>
     requires { text + sum_by function_space functions.now < 2 ^ 40 }
     ensures count { IfOk result (λ places. length places.items ≡ length functions.now) }
-    ensures places { IfOk result (λ places. (number : ℕ) → number < length functions.now → slice_index places.items number ≡ text + sum_by function_space (take number functions.now)) }
+    ensures places { IfOk result (λ places. (number : ℕ) → number < length functions.now
+        → slice_index places.items number ≡ text + sum_by function_space (take number functions.now)) }
 {
     let mut places = Vec::new(alloc);
     let mut at = text;

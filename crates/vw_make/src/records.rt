@@ -39,7 +39,8 @@ pub struct ProgramHeader {
 
 /// Appends a program header.
 pub fn put_program_header(out: &mut Vec<u8>, header: &ProgramHeader) -> Result<(), OutOfMemory>
-    ensures { OnOk result (out.new.items ≡ out.old.items ++ program_header header.now.kind header.now.flags header.now.at header.now.size header.now.align) }
+    ensures { OnOk result (out.new.items
+        ≡ out.old.items ++ program_header header.now.kind header.now.flags header.now.at header.now.size header.now.align) }
 {
     let file_size = header.size;
     let memory_size = header.size;
@@ -71,7 +72,8 @@ pub struct SymbolEntry {
 
 /// Appends a symbol.
 pub fn put_symbol(out: &mut Vec<u8>, entry: &SymbolEntry) -> Result<(), OutOfMemory>
-    ensures { OnOk result (out.new.items ≡ out.old.items ++ symbol entry.now.name entry.now.info entry.now.section entry.now.value entry.now.size) }
+    ensures { OnOk result (out.new.items
+        ≡ out.old.items ++ symbol entry.now.name entry.now.info entry.now.section entry.now.value entry.now.size) }
 {
     put_u32(out, entry.name)?;
     put(out, &[entry.info, 0])?;
@@ -105,7 +107,8 @@ pub struct RelaEntry {
 /// Appends a relocation.
 #[tactic(auto, unfolding(crate::specs::Records::relocation))]
 pub fn put_relocation(out: &mut Vec<u8>, entry: &RelaEntry) -> Result<(), OutOfMemory>
-    ensures { OnOk result (out.new.items ≡ out.old.items ++ relocation entry.now.offset entry.now.kind entry.now.symbol entry.now.addend) }
+    ensures { OnOk result (out.new.items
+        ≡ out.old.items ++ relocation entry.now.offset entry.now.kind entry.now.symbol entry.now.addend) }
 {
     put_u64(out, entry.offset)?;
     put_u32(out, entry.kind)?;
@@ -140,7 +143,8 @@ pub struct SectionHeader {
 /// Appends a section header.
 #[tactic(auto, unfolding(crate::specs::Records::section_header))]
 pub fn put_section_header(out: &mut Vec<u8>, header: &SectionHeader) -> Result<(), OutOfMemory>
-    ensures { OnOk result (out.new.items ≡ out.old.items ++ section_header header.now.kind header.now.offset header.now.size header.now.link header.now.entry_size) }
+    ensures { OnOk result (out.new.items
+        ≡ out.old.items ++ section_header header.now.kind header.now.offset header.now.size header.now.link header.now.entry_size) }
 {
     put_u32(out, 0)?;
     put_u32(out, header.kind)?;

@@ -18,7 +18,8 @@ const RELATIVE: u32 = 8;
 #[tactic(auto, unfolding(crate::specs::Relocations::relocations))]
 pub fn put_relocations(out: &mut Vec<u8>, plan: &Plan) -> Result<(), OutOfMemory>
     requires { IsPlan plan.now }
-    ensures { OnOk result (out.new.items ≡ out.old.items ++ relocations plan.now.parts.now plan.now.layout) }
+    ensures { OnOk result (out.new.items
+        ≡ out.old.items ++ relocations plan.now.parts.now plan.now.layout) }
 {
     put_slot_relocations(out, plan)?;
     put_pair_relocations(out, plan)?;
@@ -29,7 +30,8 @@ pub fn put_relocations(out: &mut Vec<u8>, plan: &Plan) -> Result<(), OutOfMemory
 #[tactic(auto, unfolding(crate::specs::Relocations::slot_relocations))]
 fn put_slot_relocations(out: &mut Vec<u8>, plan: &Plan) -> Result<(), OutOfMemory>
     requires { IsPlan plan.now }
-    ensures { OnOk result (out.new.items ≡ out.old.items ++ slot_relocations plan.now.parts.now.imports plan.now.layout) }
+    ensures { OnOk result (out.new.items
+        ≡ out.old.items ++ slot_relocations plan.now.parts.now.imports plan.now.layout) }
 {
     let count = plan.parts.imports.as_slice().len() as u32;
     for number in 0..count {
@@ -60,7 +62,8 @@ fn put_relative(out: &mut Vec<u8>, at: u64, address: u64) -> Result<(), OutOfMem
 #[tactic(auto, unfolding(crate::specs::Relocations::pair_relocations))]
 fn put_pair_relocations(out: &mut Vec<u8>, plan: &Plan) -> Result<(), OutOfMemory>
     requires { IsPlan plan.now }
-    ensures { OnOk result (out.new.items ≡ out.old.items ++ pair_relocations plan.now.parts.now.tables plan.now.layout) }
+    ensures { OnOk result (out.new.items
+        ≡ out.old.items ++ pair_relocations plan.now.parts.now.tables plan.now.layout) }
 {
     let tables = plan.parts.tables.as_slice();
     let mut pair = plan.layout.lucet_tables;
@@ -76,7 +79,8 @@ fn put_pair_relocations(out: &mut Vec<u8>, plan: &Plan) -> Result<(), OutOfMemor
 #[tactic(auto, unfolding(crate::specs::Relocations::entry_relocations))]
 fn put_entry_relocations(out: &mut Vec<u8>, plan: &Plan) -> Result<(), OutOfMemory>
     requires { IsPlan plan.now }
-    ensures { OnOk result (out.new.items ≡ out.old.items ++ entry_relocations plan.now.parts.now.functions plan.now.parts.now.tables plan.now.layout) }
+    ensures { OnOk result (out.new.items
+        ≡ out.old.items ++ entry_relocations plan.now.parts.now.functions plan.now.parts.now.tables plan.now.layout) }
 {
     let tables = plan.parts.tables.as_slice();
     let mut table = plan.layout.tables;
@@ -98,7 +102,8 @@ fn put_table_relocations(
     requires plan { IsPlan plan.now }
     requires there { All (EntryFits plan.now.parts.now) entries.now }
     requires fits { at + 16 * length entries.now < 2 ^ 40 }
-    ensures { OnOk result (out.new.items ≡ out.old.items ++ table_relocations plan.now.parts.now.functions plan.now.layout at entries.now) }
+    ensures { OnOk result (out.new.items
+        ≡ out.old.items ++ table_relocations plan.now.parts.now.functions plan.now.layout at entries.now) }
 {
     let mut place = at;
     for entry in entries {
@@ -118,7 +123,8 @@ fn put_entry_relocation(
     requires plan { IsPlan plan.now }
     requires there { EntryFits plan.now.parts.now entry }
     requires fits { at < 2 ^ 40 }
-    ensures { OnOk result (out.new.items ≡ out.old.items ++ entry_relocation plan.now.parts.now.functions plan.now.layout at entry) }
+    ensures { OnOk result (out.new.items
+        ≡ out.old.items ++ entry_relocation plan.now.parts.now.functions plan.now.layout at entry) }
 {
     match entry.1 {
         Some(function) => put_relative(out, at + 8, plan.functions[function as usize]),
@@ -129,7 +135,8 @@ fn put_entry_relocation(
 #[tactic(auto, unfolding(crate::specs::Relocations::bind_relocations))]
 fn put_bind_relocations(out: &mut Vec<u8>, plan: &Plan) -> Result<(), OutOfMemory>
     requires { IsPlan plan.now }
-    ensures { OnOk result (out.new.items ≡ out.old.items ++ bind_relocations plan.now.parts.now.binds plan.now.layout) }
+    ensures { OnOk result (out.new.items
+        ≡ out.old.items ++ bind_relocations plan.now.parts.now.binds plan.now.layout) }
 {
     let binds = plan.parts.binds.as_slice();
     for bind in binds {

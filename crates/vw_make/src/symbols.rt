@@ -100,7 +100,8 @@ pub fn put_symbols(out: &mut Vec<u8>, plan: &Plan) -> Result<(), OutOfMemory>
 fn put_function_symbols(out: &mut Vec<u8>, plan: &Plan) -> Result<u32, OutOfMemory>
     requires { IsPlan plan.now }
     ensures next { IfOk result (λ next. next ≡ strings_size (function_names plan.now.parts.now.functions)) }
-    ensures bytes { OnOk result (out.new.items ≡ out.old.items ++ function_symbols plan.now.parts.now.functions plan.now.layout) }
+    ensures bytes { OnOk result (out.new.items
+        ≡ out.old.items ++ function_symbols plan.now.parts.now.functions plan.now.layout) }
 {
     let functions = plan.parts.functions.as_slice();
     let mut name: u32 = 1;
@@ -120,7 +121,8 @@ fn put_function_symbols(out: &mut Vec<u8>, plan: &Plan) -> Result<u32, OutOfMemo
 
 /// Appends the string table of the symbols.
 pub fn put_symbol_strings(out: &mut Vec<u8>, plan: &Plan) -> Result<(), OutOfMemory>
-    ensures { OnOk result (out.new.items ≡ out.old.items ++ string_table (symbol_names plan.now.parts.now)) }
+    ensures { OnOk result (out.new.items
+        ≡ out.old.items ++ string_table (symbol_names plan.now.parts.now)) }
 {
     put(out, &[0])?;
     put_function_names(out, plan.parts.functions.as_slice())?;

@@ -27,7 +27,8 @@ pub fn put_text(out: &mut Vec<u8>, plan: &Plan) -> Result<(), OutOfMemory>
 #[tactic(auto, unfolding(crate::specs::Text::function_texts))]
 fn put_functions(out: &mut Vec<u8>, plan: &Plan) -> Result<(), OutOfMemory>
     requires { IsPlan plan.now }
-    ensures { OnOk result (out.new.items ≡ out.old.items ++ function_texts plan.now.parts.now.functions plan.now.layout) }
+    ensures { OnOk result (out.new.items
+        ≡ out.old.items ++ function_texts plan.now.parts.now.functions plan.now.layout) }
 {
     let functions = plan.parts.functions.as_slice();
     for (number, func) in functions.iter().enumerate() {
@@ -45,7 +46,8 @@ fn code_with_fixes(alloc: Global, plan: &Plan, func: &Func, at: u64) -> Result<V
     requires plan { IsPlan plan.now }
     requires fits { FuncFits plan.now.parts.now func.now }
     requires low { at < 2 ^ 31 }
-    ensures { IfOk result (λ code. code.items ≡ fixed_code plan.now.parts.now.functions plan.now.layout at func.now) }
+    ensures { IfOk result (λ code. code.items
+        ≡ fixed_code plan.now.parts.now.functions plan.now.layout at func.now) }
 {
     let mut code = Vec::from_slice(alloc, func.code.as_slice())?;
     let fixes = func.fixes.as_slice();
@@ -84,7 +86,8 @@ fn target_address(plan: &Plan, target: Target) -> u64
 #[tactic(auto, unfolding(crate::specs::Text::stub_texts))]
 fn put_stubs(out: &mut Vec<u8>, plan: &Plan) -> Result<(), OutOfMemory>
     requires { IsPlan plan.now }
-    ensures { OnOk result (out.new.items ≡ out.old.items ++ stub_texts plan.now.parts.now.imports plan.now.layout) }
+    ensures { OnOk result (out.new.items
+        ≡ out.old.items ++ stub_texts plan.now.parts.now.imports plan.now.layout) }
 {
     for number in 0..plan.sizes.imports {
         put_stub(
@@ -100,7 +103,8 @@ fn put_stubs(out: &mut Vec<u8>, plan: &Plan) -> Result<(), OutOfMemory>
 fn put_stub(out: &mut Vec<u8>, at: u64, slot: u64) -> Result<(), OutOfMemory>
     requires at { at < 2 ^ 31 }
     requires slot { slot < 2 ^ 31 }
-    ensures { OnOk result (out.new.items ≡ out.old.items ++ padded 16 0xCC (0xFF ∷ 0x25 ∷ little_bytes 4 (difference slot (at + 6)))) }
+    ensures { OnOk result (out.new.items
+        ≡ out.old.items ++ padded 16 0xCC (0xFF ∷ 0x25 ∷ little_bytes 4 (difference slot (at + 6)))) }
 {
     put(out, &[0xFF, 0x25])?;
     put_u32(out, distance(slot, at + 6))?;

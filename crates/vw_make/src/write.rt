@@ -38,8 +38,16 @@ const SHT_SYMTAB: u32 = 2;
 const SHT_STRTAB: u32 = 3;
 
 /// The file of the module with these parts: an ELF64 shared object for x86-64 in which every address is
-/// the offset of the same byte. The parts meet the bounds of a module (`MeetsBounds`); the bytes are
-/// those of `module_bytes`.
+/// the offset of the same byte (System V gABI, "Object Files" and "Program Loading and Dynamic Linking").
+/// Time and memory are linear in the size of the file.
+///
+/// The parts are to meet these bounds: numbers name functions, imports and bytes that are there; the four
+/// bytes of a fix lie in its code and the eight bytes of a bind in the content; no two fixes of one
+/// function and no two binds share a byte; at most 65,536 functions of at most 1,048,576 bytes, 65,536
+/// different imports, names of at most 1,024 bytes, 64 tables of at most 65,536 entries; and a file of at
+/// most 67,108,864 bytes.
+///
+/// The only error is want of memory.
 pub fn write_module(alloc: Global, parts: &Parts) -> Result<List<u8>, OutOfMemory>
     requires { MeetsBounds parts.now }
     ensures bytes { IfOk result (λ file. file ≡ module_bytes parts.now) }
@@ -67,7 +75,8 @@ fn whole_file(alloc: Global, plan: &Plan) -> Result<Vec<u8>, OutOfMemory>
 #[tactic(auto, unfolding(crate::specs::Module::with_dynamic))]
 fn file_with_dynamic(alloc: Global, plan: &Plan) -> Result<Vec<u8>, OutOfMemory>
     requires { IsPlan plan.now }
-    ensures { IfOk result (λ file. file.items ≡ with_dynamic plan.now.parts.now plan.now.sizes plan.now.layout) }
+    ensures { IfOk result (λ file. file.items
+        ≡ with_dynamic plan.now.parts.now plan.now.sizes plan.now.layout) }
 {
     let mut out = file_with_text(alloc, plan)?;
     fill_to(&mut out, plan.layout.slots)?;
