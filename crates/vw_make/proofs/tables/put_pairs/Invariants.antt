@@ -1,0 +1,7 @@
+use Rattle.std.proofs.Common.{◌≡◌, ◌++◌, take}
+use Rattle.std.specs.List.{flat_map}
+use Rattle.vw_make.specs.Tables.{pair}
+use Rattle.vw_make.proofs.tables.put_pairs.Given as goal
+
+abbrev pub invariant-loop-entries : goal.invariant-loop-entries
+invariant-loop-entries l = l.out.items ≡ l.initial.out.items ++ flat_map pair (take l.entries-index l.tables)

@@ -1,0 +1,11 @@
+pub mod Bytes
+pub mod Records
+pub mod Layout
+pub mod Small
+pub mod Bounds
+pub mod Plan
+pub mod Symbols
+pub mod Relocations
+pub mod Text
+pub mod Tables
+pub mod Module

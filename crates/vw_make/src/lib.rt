@@ -1,0 +1,21 @@
+//! Writes whole modules: ELF64 shared objects for x86-64 with functions, import stubs, function tables and
+//! data, byte for byte as defined.
+#![tactic(auto)]
+
+mod buffer;
+mod layout;
+mod parts;
+mod plan;
+mod records;
+mod relocations;
+mod sizes;
+mod symbols;
+mod tables;
+mod text;
+mod write;
+
+pub use parts::{Func, Parts, Target};
+pub use write::write_module;
+
+#[cfg(test)]
+mod tests;
