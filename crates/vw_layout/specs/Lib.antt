@@ -1,0 +1,6 @@
+pub mod Faults
+pub mod Bounds
+pub mod Symbols
+pub mod Functions
+pub mod Tables
+pub mod Layout
