@@ -1,0 +1,18 @@
+//! The image of a module: its bytes in memory, before and after relocation, and the import stubs that stand
+//! in it.
+#![tactic(auto)]
+
+mod image;
+mod index;
+mod laws;
+mod places;
+mod stub;
+mod word;
+
+pub use image::Image;
+pub use laws::{code_is_settled, file_bytes_are_memory, readable_is_settled, words_spell};
+pub use stub::{Stub, StubTo};
+pub use word::Word;
+
+#[cfg(test)]
+mod tests;
