@@ -1,0 +1,5 @@
+pub mod FaultLemmas
+pub mod SymbolLemmas
+pub mod AddressLemmas
+pub mod OverlapLemmas
+pub mod ShortLemmas

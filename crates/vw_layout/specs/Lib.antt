@@ -3,4 +3,5 @@ pub mod Bounds
 pub mod Symbols
 pub mod Functions
 pub mod Tables
+pub mod Spans
 pub mod Layout
