@@ -153,6 +153,15 @@ Rises-at low (n ∷ ns) (suc i) (suc j) rises before inside =
     let apart : i < j = omega arith in
     Rises-at (n + 1) ns i j rises.1 apart within
 
+-- and at or above its place
+pub Rises-place : (low : ℕ) (ns : List ℕ) (j : ℕ) → Rises low ns → j < length ns → low + j ≤ get_or ns j 0
+Rises-place low [] j rises inside = absurd (omega arith)
+Rises-place low (n ∷ ns) zero rises inside = omega (arith, rises.0)
+Rises-place low (n ∷ ns) (suc j) rises inside =
+    let within : j < length ns = omega arith in
+    let above = Rises-place (n + 1) ns j rises.1 within in
+    omega (arith, rises.0, above)
+
 -- the first symbols, by ascending address
 value_at : (symbols : List SymbolEntry) (a : ℕ) (s : SymbolEntry) → first_at symbols a ≡ Some s → s.symbol.value ≡ a
 value_at symbols a s found =

@@ -3,3 +3,7 @@ pub mod SymbolLemmas
 pub mod AddressLemmas
 pub mod OverlapLemmas
 pub mod ShortLemmas
+pub mod TableLemmas
+pub mod SectionLemmas
+pub mod ModuleLemmas
+pub mod SearchLemmas

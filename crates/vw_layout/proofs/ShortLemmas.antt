@@ -1,5 +1,5 @@
 -- What rule 28 gives of function symbols.
-use Rattle.std.proofs.Common.{◌≡◌, ℕ, ◌+◌, ◌≤◌, ◌^◌, ◌&&◌, ◌||◌, Bool, true, false, not, cond, nat_le, List, [], ◌∷◌, All, Option, Some, None, option_map, refl, arith, inl, inr, ◌⊎◌}
+use Rattle.std.proofs.Common.{◌≡◌, ℕ, ◌+◌, ◌≤◌, ◌<◌, ◌^◌, ◌&&◌, ◌||◌, Bool, true, false, not, cond, nat_le, List, [], ◌∷◌, All, Option, Some, None, option_map, refl, arith, inl, inr, ◌⊎◌}
 use Rattle.std.specs.List.{find, list_any}
 use Rattle.std.proofs.lemmas.Bool.{false≢true}
 use Rattle.std.proofs.lemmas.Bool.Decides.{nat_tests}
@@ -27,17 +27,18 @@ pub unfound : (found : Option SymbolEntry) → symbol_offset found ≡ None → 
 unfound None none = refl
 unfound (Some s) none = cc
 
-below_of : (segment : Segment) (s : SymbolEntry) → IsBounded (2 ^ 32) segment → is_code segment s ≡ true → s.symbol.value + s.symbol.size ≤ 2 ^ 32
+below_of : (segment : Segment) (s : SymbolEntry) → IsBounded (2 ^ 32) segment → is_code segment s ≡ true → (s.symbol.value < 2 ^ 32) × (s.symbol.value + s.symbol.size ≤ 2 ^ 32)
 below_of segment s bounded code =
     let end : segment.vaddr + segment.filesz ≤ 2 ^ 32 = bounded.below in
+    let first : s.symbol.value < segment.vaddr + segment.filesz = grind (arith, nat_tests, code) in
     let inside : s.symbol.value + s.symbol.size ≤ segment.vaddr + segment.filesz = grind (arith, nat_tests, code) in
-    omega (arith, end, inside)
+    (omega (arith, end, first), omega (arith, end, inside))
 
 or_cases : (a b : Bool) → (a || b) ≡ true → (a ≡ true) ⊎ (b ≡ true)
 or_cases true b h = inl refl
 or_cases false b h = inr h
 
-in_some : (segments : List Segment) (s : SymbolEntry) → AreBounded (2 ^ 32) segments → list_any (λ segment. is_code segment s) segments ≡ true → s.symbol.value + s.symbol.size ≤ 2 ^ 32
+in_some : (segments : List Segment) (s : SymbolEntry) → AreBounded (2 ^ 32) segments → list_any (λ segment. is_code segment s) segments ≡ true → (s.symbol.value < 2 ^ 32) × (s.symbol.value + s.symbol.size ≤ 2 ^ 32)
 in_some [] s bounded some = absurd (false≢true some)
 in_some (segment ∷ more) s bounded some =
     elim (or_cases (is_code segment s) (list_any (λ segment. is_code segment s) more) some) [
@@ -54,7 +55,8 @@ is_short : (segments : List Segment) (s : SymbolEntry) → AreBounded (2 ^ 32) s
 is_short segments s bounded placed =
     let both = both_hold (nat_le s.symbol.size 1048576) (list_any (λ segment. is_code segment s) segments) placed in
     let test : nat_le s.symbol.size 1048576 ≡ true = both.0 in
-    record { below = in_some segments s bounded both.1; short = grind (arith, nat_tests, test) }
+    let place = in_some segments s bounded both.1 in
+    record { at = place.0; below = place.1; short = grind (arith, nat_tests, test) }
 
 pub AreShort-from_rule : (segments : List Segment) (symbols : List SymbolEntry) → AreBounded (2 ^ 32) segments → symbol_offset (find (is_misplaced segments) symbols) ≡ None → AreShort symbols
 AreShort-from_rule segments symbols bounded holds =

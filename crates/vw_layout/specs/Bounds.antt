@@ -12,6 +12,7 @@ AreInside len sections = All (IsInside len) sections
 
 -- a function of at most 2^20 bytes below 2^32
 pub record IsShort (s : SymbolEntry) : Type 0 where
+  pub at : s.symbol.value < 2 ^ 32
   pub below : s.symbol.value + s.symbol.size ≤ 2 ^ 32
   pub short : s.symbol.size ≤ 2 ^ 20
 

@@ -1,7 +1,7 @@
 -- The tables of a module, and rules 32 to 35. The symbol `lucet_tables` names a range of pairs of words, each
 -- the address of a table and its number of entries. An entry of a table is a pair of words too: a tag and a
 -- pointer to code.
-use Rattle.std.specs.Prelude.{ℕ, ◌+◌, ◌*◌, ◌/◌, ◌%◌, Bool, true, false, not, ◌&&◌, ◌||◌, ◌==◌, nat_le, nat_lt, List, [], ◌∷◌, map, Option, Some, None, option_map, unwrap_or, codes, slice_get}
+use Rattle.std.specs.Prelude.{ℕ, ◌+◌, ◌*◌, ◌/◌, ◌%◌, Bool, true, false, not, ◌&&◌, ◌||◌, ◌==◌, nat_le, nat_lt, List, [], ◌∷◌, map, Option, Some, None, option_map, option_and_then, unwrap_or, codes, slice_get}
 use Rattle.std.specs.List.{find, list_any, flat_map}
 use Rattle.std.specs.Option.{option_map_or, option_or}
 use Rattle.std.specs.Str.{bytes_eq}
@@ -23,19 +23,18 @@ use Rattle.vw_layout.specs.declared.functions.Function.{Function}
 use Rattle.vw_layout.specs.declared.tables.TableInfo.{TableInfo}
 use Rattle.vw_layout.specs.declared.tables.TableEntry.{TableEntry}
 
+-- the first symbol of the tables, if there is one
+abbrev pub first_of : List SymbolEntry → Option SymbolEntry
+first_of symbols = slice_get symbols 0
+
 -- a symbol of the tables has the value and the size of the first one, and a size of whole pairs, at most 64
 abbrev pub agrees : SymbolEntry → SymbolEntry → Bool
 agrees first s =
     s.symbol.value == first.symbol.value && s.symbol.size == first.symbol.size && s.symbol.size % 16 == 0 && nat_le s.symbol.size 1024
 
 -- Rule 32: the first symbol of the tables that does not agree.
-unfoldable pub first_disagreeing : List SymbolEntry → Option SymbolEntry
-first_disagreeing [] = None
-first_disagreeing (first ∷ more) = find (λ s. not (agrees first s)) (first ∷ more)
-
-abbrev pub first_of : List SymbolEntry → Option SymbolEntry
-first_of [] = None
-first_of (first ∷ more) = Some first
+abbrev pub first_disagreeing : List SymbolEntry → Option SymbolEntry
+first_disagreeing symbols = option_and_then (λ first. find (λ s. not (agrees first s)) symbols) (first_of symbols)
 
 -- the addresses of the pairs that a symbol of the tables names
 abbrev pub pairs_from : Option SymbolEntry → List ℕ

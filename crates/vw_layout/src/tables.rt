@@ -103,11 +103,18 @@ pub(crate) fn read_tables(
 }
 
 // Rule 32: the first symbol of the tables that does not agree with the first one.
-#[tactic(auto, unfolding(crate::specs::Tables::first_disagreeing))]
 fn first_disagreeing(symbols: &[SymbolEntry]) -> Option<u64>
     ensures { result ≡ symbol_offset (first_disagreeing symbols.now) }
 {
-    let first = symbols.first()?;
+    match symbols.first() {
+        None => None,
+        Some(first) => first_unlike(first, symbols),
+    }
+}
+
+fn first_unlike(first: &SymbolEntry, symbols: &[SymbolEntry]) -> Option<u64>
+    ensures { result ≡ symbol_offset (find (λ s. not (agrees first.now s)) symbols.now) }
+{
     symbols
         .iter()
         .find(|s| !agrees(first, s))
