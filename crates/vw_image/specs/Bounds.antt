@@ -1,8 +1,10 @@
--- What the rules on headers give of the segments of a file.
-use Rattle.std.specs.Prelude.{◌≡◌, ℕ, ◌+◌, ◌≤◌, ◌^◌, true, false, List, [], ◌∷◌, All}
+-- What the rules give of the segments and the relocations of a file.
+use Rattle.std.specs.Prelude.{◌≡◌, ℕ, ◌+◌, ◌≤◌, ◌^◌, true, false, List, [], ◌∷◌}
 use Rattle.std.specs.List.{AllByRecursion}
 use Rattle.vw_bits.specs.Places.{in_memory}
 use Rattle.vw_bits.specs.declared.records.Segment.{Segment}
+use Rattle.vw_dynamic.specs.declared.dynamic.Relocation.{Relocation}
+use Rattle.vw_image.specs.Image.{touches}
 
 -- a segment's file part ends at or before `len` in the file and is no longer than its memory, which ends at or
 -- before 2^31
@@ -12,13 +14,25 @@ pub record IsBounded (len : ℕ) (s : Segment) : Type 0 where
   pub below : s.vaddr + s.memsz ≤ 2 ^ 31
 
 abbrev pub AreBounded : ℕ → List Segment → Type 0
-AreBounded len segments = All (IsBounded len) segments
+AreBounded len segments = AllByRecursion (IsBounded len) segments
+
+-- a relation holds of each item and each one behind it
+unfoldable pub Pairwise : {X : Type 0} → (X → X → Type 0) → List X → Type 0
+Pairwise R [] = Unit {0}
+Pairwise R (x ∷ more) = AllByRecursion (R x) more × Pairwise R more
 
 -- no byte is in the memory of both
 abbrev pub AreApart : Segment → Segment → Type 0
 AreApart s t = (a : ℕ) → in_memory a 1 s ≡ true → in_memory a 1 t ≡ false
 
 -- no byte is in the memory of two of them
-unfoldable pub AllApart : List Segment → Type 0
-AllApart [] = Unit {0}
-AllApart (s ∷ more) = AllByRecursion (AreApart s) more × AllApart more
+abbrev pub AllApart : List Segment → Type 0
+AllApart segments = Pairwise AreApart segments
+
+-- no byte is changed by both
+abbrev pub AreSeparate : Relocation → Relocation → Type 0
+AreSeparate r s = touches r.place 8 s ≡ false
+
+-- no byte is changed by two of them
+abbrev pub AllSeparate : List Relocation → Type 0
+AllSeparate relocations = Pairwise AreSeparate relocations

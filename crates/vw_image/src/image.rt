@@ -9,8 +9,8 @@ ghost use Rattle.vw_image.specs.Laws.{IsSize, IsNumbered};
 
 use crate::index::{bound_by_place, by_place, touches};
 use crate::places::{file_bytes, readable_number, readable_segment};
-use crate::stub::slot_at;
-use crate::{Stub, StubTo, Word};
+use crate::stub::{slot_at, stub_to};
+use crate::{Stub, Word};
 use std::alloc::Global;
 use std::collections::BTreeMap;
 use std::marker::Model;
@@ -143,12 +143,7 @@ impl Image {
         ensures { result ≡ stub_at self.now a }
     {
         let slot = slot_at(self.bytes.as_slice(), self.segments.as_slice(), a)?;
-        let to = match self.word_at(slot, 8) {
-            Word::Bound(number) => StubTo::Import(number),
-            Word::Based(address) => StubTo::Inside(address),
-            Word::Plain(_) | Word::Mixed | Word::Outside => return None,
-        };
-        Some(Stub { slot, to })
+        stub_to(slot, self.word_at(slot, 8))
     }
 }
 

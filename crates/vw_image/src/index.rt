@@ -3,6 +3,7 @@ ghost use Rattle.std.specs.Option.{IsSome};
 ghost use Rattle.std.specs.BTreeMap.{get};
 ghost use Rattle.std.specs.Ordering.{nat_cmp};
 ghost use Rattle.vw_image.specs.Image.{shares};
+ghost use Rattle.vw_image.specs.Bounds.{AllSeparate};
 ghost use Rattle.vw_image.specs.Index.{IsIndex, bound_ones};
 
 use std::alloc::Global;
@@ -13,16 +14,17 @@ use vw_dynamic::{RelKind, Relocation};
 /// How many bytes a relocation changes.
 const RELOCATED: u64 = 8;
 
-// The relocations by their places.
+// The relocations by their places, of which no two share a byte.
 pub(crate) fn by_place(
     alloc: Global,
     relocations: &[Relocation],
 ) -> Result<BTreeMap<u64, RelKind>, OutOfMemory>
+    requires { AllSeparate relocations.now }
     ensures { IfOk result (λ index. IsIndex index relocations.now) }
 {
     let mut index = BTreeMap::new(alloc);
     for relocation in relocations {
-        index.entry(relocation.place)?.or_insert(relocation.kind);
+        index.insert(relocation.place, relocation.kind)?;
     }
     Ok(index)
 }
@@ -32,12 +34,13 @@ pub(crate) fn bound_by_place(
     alloc: Global,
     relocations: &[Relocation],
 ) -> Result<BTreeMap<u64, RelKind>, OutOfMemory>
+    requires { AllSeparate relocations.now }
     ensures { IfOk result (λ index. IsIndex index (bound_ones relocations.now)) }
 {
     let mut index = BTreeMap::new(alloc);
     for relocation in relocations {
         if let RelKind::Bound(_) = relocation.kind {
-            index.entry(relocation.place)?.or_insert(relocation.kind);
+            index.insert(relocation.place, relocation.kind)?;
         }
     }
     Ok(index)

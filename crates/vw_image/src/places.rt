@@ -3,7 +3,7 @@ ghost use Rattle.std.specs.List.{find};
 ghost use Rattle.vw_bits.specs.Fields.{load};
 ghost use Rattle.vw_bits.specs.Headers.{is_readable, is_executable};
 ghost use Rattle.vw_bits.specs.Places.{is_among, in_memory, in_file_part, file_offset};
-ghost use Rattle.vw_image.specs.Bounds.{AreBounded, AllApart};
+ghost use Rattle.vw_image.specs.Bounds.{IsBounded, AreBounded, AllApart};
 ghost use Rattle.vw_image.specs.Image.{segment_byte, memory_byte};
 ghost use Rattle.vw_image.specs.Words.{in_readable};
 
@@ -21,18 +21,16 @@ fn is_among(start: u64, len: u64, address: u64, size: u64) -> bool
 pub(crate) fn readable_segment(segments: &[Segment], address: u64, size: u64) -> Option<&Segment>
     ensures { option_copied result ≡ find (λ s. is_readable s && in_memory address size s) segments.now }
 {
-    segments
-        .iter()
-        .find(|s| s.rights.contains(Rights::R) && is_among(s.vaddr, s.memsz, address, size))
+    segments.iter().find(|s| s.rights.contains(Rights::R)
+        && is_among(s.vaddr, s.memsz, address, size))
 }
 
 // The first segment with the right to execute in whose memory a range is.
 pub(crate) fn executable_segment(segments: &[Segment], address: u64, size: u64) -> Option<&Segment>
     ensures { option_copied result ≡ find (λ s. is_executable s && in_memory address size s) segments.now }
 {
-    segments
-        .iter()
-        .find(|s| s.rights.contains(Rights::X) && is_among(s.vaddr, s.memsz, address, size))
+    segments.iter().find(|s| s.rights.contains(Rights::X)
+        && is_among(s.vaddr, s.memsz, address, size))
 }
 
 // The first segment in whose file part a range is.
@@ -55,13 +53,19 @@ pub(crate) fn file_bytes<'a>(
     ensures { option_copied result ≡ option_map (λ at. take size (drop at bytes.now)) (file_offset segments.now address size) }
 {
     let segment = file_segment(segments, address, size)?;
-    let start = segment.offset + (address - segment.vaddr);
-    Some(&bytes[start as usize..(start + size) as usize])
+    Some(part(bytes, segment.offset + (address - segment.vaddr), size))
+}
+
+fn part(bytes: &[u8], offset: u64, size: u64) -> &[u8]
+    requires { offset + size ≤ length bytes.now }
+    ensures { result.now ≡ take size (drop offset bytes.now) }
+{
+    &bytes[offset as usize..(offset + size) as usize]
 }
 
 // The byte at an address of a segment: zero past the bytes that the file holds.
 pub(crate) fn byte_at(bytes: &[u8], segment: &Segment, address: u64) -> u8
-    requires inside { segment.now.offset + segment.now.filesz ≤ length bytes.now }
+    requires bounded { IsBounded (length bytes.now) segment.now }
     requires behind { segment.now.vaddr ≤ address }
     ensures { result ≡ segment_byte bytes.now segment.now address }
 {
@@ -75,7 +79,7 @@ pub(crate) fn byte_at(bytes: &[u8], segment: &Segment, address: u64) -> u8
 
 // The number that up to eight bytes of a segment's memory spell, the least significant first.
 pub(crate) fn number_in(bytes: &[u8], segment: &Segment, address: u64, size: u32) -> u64
-    requires inside { segment.now.offset + segment.now.filesz ≤ length bytes.now }
+    requires bounded { IsBounded (length bytes.now) segment.now }
     requires held { in_memory address size segment.now ≡ true }
     requires short { size ≤ 8 }
     ensures { result ≡ load (segment_byte bytes.now segment.now) address size }

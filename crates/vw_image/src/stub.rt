@@ -1,9 +1,10 @@
-ghost use Rattle.std.specs.Prelude.{◌≡◌, ◌+◌, ◌≤◌, ◌^◌, length, true, Some, None, if◌then◌else◌};
+ghost use Rattle.std.specs.Prelude.{◌≡◌, ◌+◌, ◌≤◌, length, true, Some, None, if◌then◌else◌};
 ghost use Rattle.vw_bits.specs.Places.{in_memory};
-ghost use Rattle.vw_image.specs.Bounds.{AreBounded, AllApart};
+ghost use Rattle.vw_image.specs.Bounds.{IsBounded, AreBounded, AllApart};
 ghost use Rattle.vw_image.specs.Image.{segment_byte};
-ghost use Rattle.vw_image.specs.Stubs.{spells, stands_at, slot_behind, slot_at};
+ghost use Rattle.vw_image.specs.Stubs.{spells, stands_at, slot_behind, slot_at, stub_to};
 
+use crate::Word;
 use crate::places::{byte_at, executable_segment, number_in};
 use vw_bits::{Segment, sign_extend, sum};
 
@@ -37,7 +38,7 @@ const BOUND_JUMP: [u8; 7] = [0xF3, 0x0F, 0x1E, 0xFA, 0xF2, 0xFF, 0x25];
 
 const DISPLACEMENT: u64 = 4;
 
-// The address of the word through which the bytes of a stub at an address jump.
+// The address of the word through which the bytes of a stub at an address jump, where such bytes stand there.
 pub(crate) fn slot_at(bytes: &[u8], segments: &[Segment], address: u64) -> Option<u64>
     requires bounded { AreBounded (length bytes.now) segments.now }
     requires apart { AllApart segments.now }
@@ -52,7 +53,7 @@ pub(crate) fn slot_at(bytes: &[u8], segments: &[Segment], address: u64) -> Optio
     slot_behind(bytes, segments, address, &BOUND_JUMP)
 }
 
-// The same for one opcode, where it and its displacement stand at the address.
+// The same for one opcode.
 fn slot_behind(bytes: &[u8], segments: &[Segment], address: u64, opcode: &[u8]) -> Option<u64>
     requires bounded { AreBounded (length bytes.now) segments.now }
     requires apart { AllApart segments.now }
@@ -71,9 +72,8 @@ fn slot_behind(bytes: &[u8], segments: &[Segment], address: u64, opcode: &[u8]) 
 
 // Whether the bytes from an address on are these.
 fn spells(bytes: &[u8], segment: &Segment, address: u64, expected: &[u8]) -> bool
-    requires inside { segment.now.offset + segment.now.filesz ≤ length bytes.now }
+    requires bounded { IsBounded (length bytes.now) segment.now }
     requires held { in_memory address (length expected.now) segment.now ≡ true }
-    requires below { segment.now.vaddr + segment.now.memsz ≤ 2 ^ 31 }
     ensures { result ≡ spells (segment_byte bytes.now segment.now) address expected.now }
 {
     let mut at = address;
@@ -84,4 +84,16 @@ fn spells(bytes: &[u8], segment: &Segment, address: u64, expected: &[u8]) -> boo
         at += 1;
     }
     true
+}
+
+// The stub with this slot, where the slot's word is one to jump to.
+pub(crate) fn stub_to(slot: u64, word: Word) -> Option<Stub>
+    ensures { result ≡ stub_to slot word }
+{
+    let to = match word {
+        Word::Bound(number) => StubTo::Import(number),
+        Word::Based(address) => StubTo::Inside(address),
+        Word::Plain(_) | Word::Mixed | Word::Outside => return None,
+    };
+    Some(Stub { slot, to })
 }

@@ -1,7 +1,7 @@
 use crate::{Image, Stub, StubTo, Word};
 use std::alloc::{AllocError, Global};
 use std::test::Fail;
-use vw_bits::{List, OutOfMemory};
+use vw_bits::List;
 use vw_dynamic::Dynamic;
 use vw_elf::Elf;
 
@@ -138,29 +138,19 @@ fn file(alloc: Global) -> Result<List<u8>, AllocError> {
 /// The image of the file. `None` where a rule is broken or memory is refused.
 fn image(alloc: Global) -> Option<Image> {
     let bytes = file(alloc).ok()?;
-    let elf = Elf::read(alloc, bytes.as_slice()).ok()?;
+    let Elf {
+        segments,
+        dynamics,
+        symbols: _,
+    } = Elf::read(alloc, bytes.as_slice()).ok()?;
     let dynamic = Dynamic::read(
         alloc,
         bytes.as_slice(),
-        elf.segments.as_slice(),
-        elf.dynamics.as_slice(),
-    ).ok()?;
-    built(alloc, bytes, elf, dynamic).ok()
-}
-
-fn built(
-    alloc: Global,
-    bytes: List<u8>,
-    elf: Elf,
-    dynamic: Dynamic,
-) -> Result<Image, OutOfMemory>
-{
-    let Elf {
-        segments,
-        dynamics: _,
-        symbols: _,
-    } = elf;
-    Image::build(alloc, bytes, segments, dynamic)
+        segments.as_slice(),
+        dynamics.as_slice(),
+    )
+    .ok()?;
+    Image::build(alloc, bytes, segments, dynamic).ok()
 }
 
 /// An address, a size and what is there.
@@ -251,11 +241,19 @@ fn words_follow_relocation(rt: HostRuntime) -> Result<(), Fail> {
     let image = image(rt.alloc()).ok_or("an image")?;
     for (address, size, word) in WORDS.iter() {
         if matches!(*size, 1 | 2 | 4 | 8) {
-            assert_eq!(rt; image.word_at(*address, *size), *word, "{size} bytes at {address:#x}");
+            assert_eq!(rt;
+                image.word_at(*address, *size),
+                *word,
+                "{size} bytes at {address:#x}"
+            );
         }
     }
     for (address, size, readable) in RANGES.iter() {
-        assert_eq!(rt; image.readable(*address, *size), *readable, "{size} bytes at {address:#x}");
+        assert_eq!(rt;
+            image.readable(*address, *size),
+            *readable,
+            "{size} bytes at {address:#x}"
+        );
     }
     Ok(())
 }
