@@ -1,5 +1,5 @@
 -- Modules: their functions ascend, and the first broken rule of the 36.
-use Rattle.std.proofs.Common.{◌≡◌, ℕ, ◌+◌, ◌<◌, ◌≤◌, ◌^◌, ◌++◌, [], ◌∷◌, Bool, List, map, length, get_or, All, Option, Some, None, Result, Ok, Err, IfOk, IfErr, OnOk, refl, sym, ap, ◌∙◌, arith}
+use Rattle.std.proofs.Common.{◌≡◌, ℕ, ◌+◌, ◌<◌, ◌≤◌, ◌^◌, ◌++◌, [], ◌∷◌, Bool, List, map, length, get_or, All, Option, Some, None, Result, Ok, Err, IfOk, IfErr, OnOk, refl, sym, ap, subst, ◌∙◌, arith}
 use Rattle.std.specs.List.{position}
 use Rattle.std.specs.Option.{option_or}
 use Rattle.std.proofs.lemmas.List.{length-map, get_or-map}
@@ -23,7 +23,7 @@ use Rattle.vw_layout.specs.Symbols.{symbols_for}
 use Rattle.vw_layout.specs.Functions.{by_address, function_of, functions_of, function_rules}
 use Rattle.vw_layout.specs.Tables.{table_rules, tables_of}
 use Rattle.vw_layout.specs.Spans.{Ascend}
-use Rattle.vw_layout.specs.Layout.{function_symbols, tables_symbols, declared_functions, declared_tables, import_rule, layout_fault, module_fault, IsModule, IsModuleOf}
+use Rattle.vw_layout.specs.Layout.{function_symbols, tables_symbols, declared_functions, declared_tables, import_rule, layout_fault, module_fault, IsModule, IsModuleOf, IsWhole}
 use Rattle.vw_layout.specs.declared.symbols.SymbolEntry.{SymbolEntry}
 use Rattle.vw_layout.specs.declared.symbols.Role.TheVariants as role
 use Rattle.vw_layout.specs.declared.functions.Function.{Function}
@@ -51,6 +51,10 @@ relocations_are image is = ap (λ (i : Contents). i.relocations) is.whole
 pub bytes_are : (bytes : List ℕ) → (image_of bytes).bytes ≡ bytes
 unfolding image_of
 bytes_are bytes = refl
+
+pub file_relocations_are : (bytes : List ℕ) → (image_of bytes).relocations ≡ file_relocations bytes
+unfolding image_of
+file_relocations_are bytes = refl
 
 -- declared functions ascend
 entries_are : (bytes : List ℕ) (symbols : List SymbolEntry) → map (λ f. f.entry) (map (function_of bytes) symbols) ≡ map (λ s. s.symbol.value) symbols
@@ -143,6 +147,13 @@ module_of bytes image (Ok m) is headers dynamic same functions tables layout =
       image = same ∙ is;
     }
 module_of bytes image (Err e) is headers dynamic same functions tables layout = tt
+
+pub whole_of : (bytes : List ℕ) (r : Result Module ModuleError) → IfOk r (IsModuleOf bytes) → IfOk r IsWhole
+whole_of bytes (Ok m) ok =
+    let same : m.image.bytes ≡ bytes = ap (λ (i : Contents). i.bytes) ok.image ∙ bytes_are bytes in
+    let P : List ℕ → Type 0 = λ bs. IsModuleOf bs m in
+    subst P (sym same) ok
+whole_of bytes (Err e) ok = tt
 
 pub fault_of : (bytes : List ℕ) (image : Contents) (r : Result Module ModuleError) → image ≡ image_of bytes → header_fault bytes ≡ None → dynamic_fault bytes ≡ None → IfErr r (Names (layout_fault image.bytes)) → IfErr r (Names (module_fault bytes))
 unfolding module_fault

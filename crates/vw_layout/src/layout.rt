@@ -36,6 +36,7 @@ impl Module {
     /// refuses a request.
     pub fn read(alloc: Global, bytes: List<u8>) -> Result<Module, ModuleError>
         ensures ok { IfOk result (IsModuleOf bytes) }
+        ensures whole { IfOk result IsWhole }
         ensures fault { IfErr result (Names (module_fault bytes)) }
     {
         let elf = read_headers(alloc, bytes.as_slice())?;

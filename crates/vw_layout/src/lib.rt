@@ -16,3 +16,6 @@ pub use faults::ModuleError;
 pub use functions::Function;
 pub use layout::Module;
 pub use tables::{TableEntry, TableInfo};
+
+#[cfg(test)]
+mod tests;
