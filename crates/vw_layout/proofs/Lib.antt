@@ -1,0 +1,9 @@
+pub mod FaultLemmas
+pub mod SymbolLemmas
+pub mod AddressLemmas
+pub mod OverlapLemmas
+pub mod ShortLemmas
+pub mod TableLemmas
+pub mod SectionLemmas
+pub mod ModuleLemmas
+pub mod SearchLemmas

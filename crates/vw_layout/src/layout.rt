@@ -1,0 +1,167 @@
+ghost use Rattle.std.specs.Prelude.{◌≡◌, ◌==◌, None, IfOk, IfErr, OnOk};
+ghost use Rattle.std.specs.List.{position};
+ghost use Rattle.std.specs.Str.{bytes_eq};
+ghost use Rattle.vw_bits.specs.Headers.{segments_of, dynamics_of};
+ghost use Rattle.vw_bits.specs.HeaderRules.{header_fault};
+ghost use Rattle.vw_elf.specs.SymbolSections.{symbol_sections};
+ghost use Rattle.vw_dynamic.specs.Dynamic.{dynamic_fault, file_relocations, file_imports};
+ghost use Rattle.vw_layout.specs.Faults.{Names};
+ghost use Rattle.vw_layout.specs.Layout.{declared_functions, declared_tables, is_late, import_rule, layout_fault, module_fault, IsModuleOf, IsWhole};
+
+use crate::faults::refuse;
+use crate::functions::read_functions;
+use crate::symbols::{Role, read_symbols};
+use crate::tables::{position_of, read_tables};
+use crate::{Function, ModuleError, TableInfo};
+use std::alloc::Global;
+use vw_bits::{DynHeader, List, Segment};
+use vw_dynamic::{DynError, Dynamic, RelKind, Relocation};
+use vw_elf::{Elf, ElfError, SymbolSection};
+use vw_image::Image;
+
+/// A module: an ELF64 shared object for x86-64 of which all 36 rules hold.
+#[derive(Debug, Drop)]
+pub struct Module {
+    /// The declared functions, by ascending address, at most 65,536.
+    pub functions: List<Function>,
+    /// The tables, in the order of their pairs in `lucet_tables`, at most 64.
+    pub tables: List<TableInfo>,
+    /// The image of the file.
+    pub image: Image,
+}
+
+impl Module {
+    /// Reads a file. Ok exactly where all 36 rules hold of the bytes: the module is the one that they give.
+    /// Malformed names the first broken rule and the offset that it names. Memory comes where the allocator
+    /// refuses a request.
+    pub fn read(alloc: Global, bytes: List<u8>) -> Result<Module, ModuleError>
+        ensures ok { IfOk result (IsModuleOf bytes) }
+        ensures whole { IfOk result IsWhole }
+        ensures fault { IfErr result (Names (module_fault bytes)) }
+    {
+        let elf = read_headers(alloc, bytes.as_slice())?;
+        let dynamic = read_dynamic(
+            alloc,
+            bytes.as_slice(),
+            elf.segments.as_slice(),
+            elf.dynamics.as_slice(),
+        )?;
+        let late = first_late(dynamic.relocations.as_slice());
+        let image = Image::build(alloc, bytes, elf.segments, dynamic).map_err(ModuleError::Memory)?;
+        read_layout(alloc, image, elf.symbols.as_slice(), late)
+    }
+
+    /// The number of the function that begins at an address, counted from 0 by ascending address; `None`
+    /// exactly where none does. Takes no memory.
+    pub fn function_at(&self, entry: u64) -> Option<u32>
+        requires { IsWhole self.now }
+        ensures { result ≡ position (λ f. f.entry == entry) self.now.functions }
+    {
+        match position_of(self.functions.as_slice(), entry) {
+            Some(place) => Some(place as u32),
+            None => None,
+        }
+    }
+
+    /// The number of the function with a name, the one of the lowest address where several have it; `None`
+    /// exactly where none has. Takes no memory.
+    pub fn named(&self, name: &[u8]) -> Option<u32>
+        requires { IsWhole self.now }
+        ensures { result ≡ position (λ f. bytes_eq f.name name.now) self.now.functions }
+    {
+        match position_named(self.functions.as_slice(), name) {
+            Some(place) => Some(place as u32),
+            None => None,
+        }
+    }
+}
+
+fn position_named(functions: &[Function], name: &[u8]) -> Option<usize>
+    ensures { result ≡ position (λ f. bytes_eq f.name name.now) functions.now }
+{
+    functions.iter().position(|f| f.name.as_slice() == name)
+}
+
+// Rules 1 to 14.
+fn read_headers(alloc: Global, bytes: &[u8]) -> Result<Elf, ModuleError>
+    ensures ok { OnOk result (header_fault bytes.now ≡ None) }
+    ensures segments { IfOk result (λ elf. elf.segments ≡ segments_of bytes.now) }
+    ensures dynamics { IfOk result (λ elf. elf.dynamics ≡ dynamics_of bytes.now) }
+    ensures symbols { IfOk result (λ elf. elf.symbols ≡ symbol_sections bytes.now) }
+    ensures fault { IfErr result (Names (header_fault bytes.now)) }
+{
+    match Elf::read(alloc, bytes) {
+        Ok(elf) => Ok(elf),
+        Err(ElfError::Fault { rule, offset }) => Err(ModuleError::Malformed { rule, offset }),
+        Err(ElfError::Memory(error)) => Err(ModuleError::Memory(error)),
+    }
+}
+
+// Rules 15 to 26.
+fn read_dynamic(
+    alloc: Global,
+    bytes: &[u8],
+    segments: &[Segment],
+    dynamics: &[DynHeader],
+) -> Result<Dynamic, ModuleError>
+    requires headers { header_fault bytes.now ≡ None }
+    requires segments { segments.now ≡ segments_of bytes.now }
+    requires dynamics { dynamics.now ≡ dynamics_of bytes.now }
+    ensures ok { OnOk result (dynamic_fault bytes.now ≡ None) }
+    ensures relocations { IfOk result (λ dynamic. dynamic.relocations ≡ file_relocations bytes.now) }
+    ensures imports { IfOk result (λ dynamic. dynamic.imports ≡ file_imports bytes.now) }
+    ensures fault { IfErr result (Names (dynamic_fault bytes.now)) }
+{
+    match Dynamic::read(alloc, bytes, segments, dynamics) {
+        Ok(dynamic) => Ok(dynamic),
+        Err(DynError::Fault { rule, offset }) => Err(ModuleError::Malformed { rule, offset }),
+        Err(DynError::Memory(error)) => Err(ModuleError::Memory(error)),
+    }
+}
+
+/// The greatest number of distinct names of imports.
+const MAX_IMPORTS: u32 = 65_536;
+
+// Rule 36: the first relocation that binds an import behind the first 65,536.
+fn first_late(relocations: &[Relocation]) -> Option<u64>
+    ensures { result ≡ import_rule relocations.now }
+{
+    relocations.iter().find(|r| is_late(r.kind)).map(|r| r.at)
+}
+
+fn is_late(kind: RelKind) -> bool
+    ensures { result ≡ is_late kind }
+{
+    match kind {
+        RelKind::Based(_) => false,
+        RelKind::Bound(number) => MAX_IMPORTS <= number,
+    }
+}
+
+// Rules 27 to 36, of a file with this image. `late` is what breaks rule 36.
+fn read_layout(
+    alloc: Global,
+    image: Image,
+    sections: &[SymbolSection],
+    late: Option<u64>,
+) -> Result<Module, ModuleError>
+    requires sections { sections.now ≡ symbol_sections image.bytes }
+    requires late { late ≡ import_rule image.relocations }
+    ensures image { IfOk result (λ m. m.image ≡ image) }
+    ensures functions { IfOk result (λ m. m.functions ≡ declared_functions image.bytes) }
+    ensures tables { IfOk result (λ m. m.tables ≡ declared_tables image.bytes) }
+    ensures rules { OnOk result (layout_fault image.bytes ≡ None) }
+    ensures fault { IfErr result (Names (layout_fault image.bytes)) }
+{
+    let functions = read_functions(alloc, image.bytes(), image.segments(), sections)?;
+    let symbols = read_symbols(alloc, image.bytes(), sections, Role::Tables).map_err(
+        ModuleError::Memory,
+    )?;
+    let tables = read_tables(alloc, &image, functions.as_slice(), symbols.as_slice())?;
+    refuse(36, late)?;
+    Ok(Module {
+        functions,
+        tables,
+        image,
+    })
+}

@@ -1,0 +1,25 @@
+ghost use Rattle.std.specs.Prelude.{◌≡◌, ◌^◌};
+ghost use Rattle.vw_bits.specs.Places.{is_among, file_offset};
+ghost use Rattle.vw_dynamic.specs.Bounds.{AreBounded};
+
+use vw_bits::Segment;
+
+// Whether `size` bytes from `address` on are among the `len` bytes from `start` on.
+pub(crate) fn is_among(start: u64, len: u64, address: u64, size: u64) -> bool
+    ensures { result ≡ is_among start len address size }
+{
+    start <= address && address - start < len && size <= len - (address - start)
+}
+
+// The file offset of `size` bytes at an address, where they are in the file part of a segment.
+pub(crate) fn file_offset(segments: &[Segment], address: u64, size: u64) -> Option<u64>
+    requires { AreBounded (2 ^ 32) segments.now }
+    ensures { result ≡ file_offset segments.now address size }
+{
+    for segment in segments {
+        if is_among(segment.vaddr, segment.filesz, address, size) {
+            return Some(segment.offset + (address - segment.vaddr));
+        }
+    }
+    None
+}

@@ -1,0 +1,177 @@
+ghost use Rattle.std.specs.Prelude.{◌≡◌, ◌+◌, ◌*◌, ◌≤◌, ◌++◌, length, take, drop, filter, option_copied, IfOk, OnOk};
+ghost use Rattle.vw_bits.specs.Symbols.{is_defined};
+ghost use Rattle.vw_layout.specs.Bounds.{AreInside};
+ghost use Rattle.vw_layout.specs.Symbols.{entry_at, section_symbols, symbols_for, strings_of, name_of, short_string, is_function, is_tables_symbol, has_role};
+
+use crate::fields::{u8_at, u16_at, u32_at, u64_at};
+use std::alloc::Global;
+use vw_bits::{OutOfMemory, Symbol};
+use vw_elf::SymbolSection;
+
+/// A symbol of a section of symbols, with the string table that holds its name.
+#[derive(Clone, Copy, Debug)]
+pub struct SymbolEntry {
+    /// The entry of the symbol table.
+    pub symbol: Symbol,
+    /// The file offset of the section's string table.
+    pub strings_at: u64,
+    /// The string table's size in bytes.
+    pub strings_size: u64,
+}
+
+/// What a symbol is read for.
+#[derive(Clone, Copy, Debug, PartialEq, Eq)]
+pub enum Role {
+    /// A function symbol: defined, of type FUNC, of a size of at least 1.
+    Function,
+    /// A symbol of the tables: defined, of type OBJECT, named `lucet_tables`.
+    Tables,
+}
+
+const SYMBOL_SIZE: u64 = 24;
+
+const STT_OBJECT: u8 = 1;
+
+const STT_FUNC: u8 = 2;
+
+/// The last section index below SHN_LORESERVE.
+const SHN_LAST: u16 = 65_279;
+
+/// The greatest length of a name, in bytes.
+const MAX_NAME: usize = 1024;
+
+const TABLES_NAME: &[u8] = b"lucet_tables";
+
+// The symbols of one role, by section and then by index.
+pub(crate) fn read_symbols(
+    alloc: Global,
+    bytes: &[u8],
+    sections: &[SymbolSection],
+    role: Role,
+) -> Result<Vec<SymbolEntry>, OutOfMemory>
+    requires { AreInside (length bytes.now) sections.now }
+    ensures { IfOk result (λ symbols. symbols.items ≡ symbols_for bytes.now sections.now role) }
+{
+    let mut symbols = Vec::new(alloc);
+    for section in sections {
+        append_section(bytes, section, role, &mut symbols)?;
+    }
+    Ok(symbols)
+}
+
+fn append_section(
+    bytes: &[u8],
+    section: &SymbolSection,
+    role: Role,
+    symbols: &mut Vec<SymbolEntry>,
+) -> Result<(), OutOfMemory>
+    requires { section.now.offset + 24 * section.now.count ≤ length bytes.now }
+    ensures { OnOk result (symbols.new.items ≡ symbols.old.items ++ filter (has_role bytes.now role) (section_symbols bytes.now section.now)) }
+{
+    for index in 0..section.count {
+        let entry = entry_at(bytes, section, section.offset + SYMBOL_SIZE * index);
+        if has_role(bytes, role, &entry) {
+            symbols.push(entry)?;
+        }
+    }
+    Ok(())
+}
+
+#[tactic(auto, unfolding(crate::specs::Symbols::entry_at, vw_bits::specs::Symbols::symbol_at))]
+fn entry_at(bytes: &[u8], section: &SymbolSection, at: u64) -> SymbolEntry
+    requires { at + 24 ≤ length bytes.now }
+    ensures { result ≡ entry_at bytes.now section.now at }
+{
+    SymbolEntry {
+        symbol: Symbol {
+            name: u32_at(bytes, at),
+            info: u8_at(bytes, at + 4),
+            shndx: u16_at(bytes, at + 6),
+            value: u64_at(bytes, at + 8),
+            size: u64_at(bytes, at + 16),
+            at,
+        },
+        strings_at: section.strings_at,
+        strings_size: section.strings_size,
+    }
+}
+
+fn has_role(bytes: &[u8], role: Role, entry: &SymbolEntry) -> bool
+    ensures { result ≡ has_role bytes.now role entry.now }
+{
+    match role {
+        Role::Function => is_function(entry),
+        Role::Tables => is_tables_symbol(bytes, entry),
+    }
+}
+
+fn is_function(entry: &SymbolEntry) -> bool
+    ensures { result ≡ is_function entry.now }
+{
+    is_defined(&entry.symbol) && entry.symbol.info % 16 == STT_FUNC && entry.symbol.size >= 1
+}
+
+#[tactic(auto, unfolding(crate::specs::Symbols::is_tables_symbol))]
+fn is_tables_symbol(bytes: &[u8], entry: &SymbolEntry) -> bool
+    ensures { result ≡ is_tables_symbol bytes.now entry.now }
+{
+    if !is_defined(&entry.symbol) || entry.symbol.info % 16 != STT_OBJECT {
+        return false;
+    }
+    match name_of(bytes, entry) {
+        Some(name) => TABLES_NAME == name,
+        None => false,
+    }
+}
+
+fn is_defined(symbol: &Symbol) -> bool
+    ensures { result ≡ is_defined symbol.now }
+{
+    1 <= symbol.shndx && symbol.shndx <= SHN_LAST
+}
+
+// A symbol's name, where it ends inside the string table after at most 1,024 bytes.
+pub(crate) fn name_of<'a>(bytes: &'a [u8], entry: &SymbolEntry) -> Option<&'a [u8]>
+    ensures { option_copied result ≡ name_of bytes.now entry.now }
+{
+    let strings = strings_of(bytes, entry);
+    let at = entry.symbol.name as usize;
+    if at > strings.len() {
+        return None;
+    }
+    short_string(&strings[at..])
+}
+
+// The bytes of the string table of a symbol's section.
+fn strings_of<'a>(bytes: &'a [u8], entry: &SymbolEntry) -> &'a [u8]
+    ensures { result.now ≡ strings_of bytes.now entry.now }
+{
+    let rest = from(bytes, entry.strings_at);
+    up_to(rest, entry.strings_size)
+}
+
+// The bytes from an offset on.
+fn from(bytes: &[u8], at: u64) -> &[u8]
+    ensures { result.now ≡ drop at bytes.now }
+{
+    &bytes[(at as usize).min(bytes.len())..]
+}
+
+// The first bytes, `size` of them or all where there are fewer.
+fn up_to(bytes: &[u8], size: u64) -> &[u8]
+    ensures { result.now ≡ take size bytes.now }
+{
+    &bytes[..(size as usize).min(bytes.len())]
+}
+
+// The bytes before the first zero byte, at most 1,024.
+fn short_string(rest: &[u8]) -> Option<&[u8]>
+    ensures { option_copied result ≡ short_string rest.now }
+{
+    for index in 0..rest.len().min(MAX_NAME + 1) {
+        if rest[index] == 0 {
+            return Some(&rest[..index]);
+        }
+    }
+    None
+}
