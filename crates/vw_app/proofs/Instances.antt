@@ -1,11 +1,19 @@
 -- Addresses in an instance that is laid out well.
-use Rattle.std.proofs.Common.{◌≡◌, ℤ, pos, negsuc, ◌<ℤ◌, ℕ, zero, suc, ◌+◌, ◌-◌, ◌%◌, ◌^◌, ◌≤◌, ◌<◌, List, refl, arith, lit<, w32}
+use Rattle.std.proofs.Common.{◌≡◌, ℤ, pos, negsuc, ◌<ℤ◌, ◌≢◌, ℕ, zero, suc, ◌+◌, ◌-◌, ◌%◌, ◌^◌, ◌≤◌, ◌<◌, List, [], ◌∷◌, refl, subst, arith, lit<}
 use Rattle.std.proofs.lemmas.Int.{ints}
-use mir.Val.{SFits}
 use Rattle.vw_bits.specs.Fields.{load}
 use Rattle.vw_insn.specs.Words.{word_of}
-use Rattle.vw_app.specs.World.{Range, World, IsLaidOut}
+use Rattle.std.specs.Prelude.{Contains}
+use Rattle.std.specs.List.{AllByRecursion}
+use Rattle.vw_app.specs.Walk.{IsSigned32}
+use Rattle.vw_app.specs.World.{Range, World, IsIn, IsLaidOut, loaded_range}
 use Rattle.vw_app.specs.Machine.{Bytes}
+
+-- what holds of all items of a list holds of each
+pub all_of : {A : Type 0} (P : A → Type 0) (xs : List A) → AllByRecursion P xs → (x : A) → Contains xs x → P x
+all_of P [] all x (k, inside, is) = absurd (omega arith)
+all_of P (y ∷ ys) all x (zero, inside, is) = subst P is all.0
+all_of P (y ∷ ys) all x (suc k, inside, is) = all_of P ys all.1 x (k, omega arith, is)
 
 module _ {image : List Range} {imports : ℕ} {w : World} (laid : IsLaidOut image imports w) where
   pub heap_ends : w.heap + 2 ^ 33 ≤ 2 ^ 47
@@ -25,9 +33,15 @@ module _ {image : List Range} {imports : ℕ} {w : World} (laid : IsLaidOut imag
       let heap : Range = record { from = w.heap - 8; to = w.heap + 2 ^ 33 } in
       laid.instance_apart 0 2 heap (lit< tt) (lit< tt) a (one, two) (omega arith, four)
 
+  -- an address of a part of the image is none of the host's
+  pub host_elsewhere : (part : Range) → Contains image part → (a : ℕ) → w.load + part.from ≤ a → a < w.load + part.to → a ≢ w.host_return
+  host_elsewhere part of_image a low high is_host =
+      let outside = laid.hosts_outside.0.1 in
+      all_of (λ (p : Range). ¬ IsIn w.host_return (loaded_range w p)) image outside part of_image (omega arith, omega arith)
+
 -- an access at the heap's base plus a displacement that is at least 0
-pub heap_address : (heap r : ℕ) (disp : ℤ) → r ≡ heap → SFits w32 disp → (disp <ℤ pos 0 → ⊥) → heap + 2 ^ 33 ≤ 2 ^ 47 → (heap ≤ (r + word_of disp) % 2 ^ 64) × ((r + word_of disp) % 2 ^ 64 + 4 ≤ heap + 2 ^ 33)
-heap_address heap r (pos n) is fits above ends = let small = fits.sfits in (omega arith, omega arith)
+pub heap_address : (heap r : ℕ) (disp : ℤ) → r ≡ heap → IsSigned32 disp → (disp <ℤ pos 0 → ⊥) → heap + 2 ^ 33 ≤ 2 ^ 47 → (heap ≤ (r + word_of disp) % 2 ^ 64) × ((r + word_of disp) % 2 ^ 64 + 4 ≤ heap + 2 ^ 33)
+heap_address heap r (pos n) is fits above ends = let small : n ≤ 2147483647 = omega (arith, ints, fits.1) in (omega arith, omega arith)
 heap_address heap r (negsuc n) is fits above ends = absurd (above (omega (arith, ints)))
 
 -- a number that is loaded depends on its bytes alone

@@ -1,8 +1,9 @@
+pub mod Pieces
 pub mod Spellings
 pub mod Walks
-pub mod Pieces
-pub mod OneFunctions
-pub mod Answers
 pub mod Instances
 pub mod Runs
+pub mod Modules
+pub mod Verdicts
+pub mod Answers
 pub mod LawLemmas

@@ -1,34 +1,30 @@
--- A safe walk keeps every run of the function in its sandbox.
-use Rattle.std.proofs.Common.{◌≡◌, ◌≢◌, inl, pos, ◌<ℤ◌, ℕ, zero, suc, ◌+◌, ◌-◌, ◌%◌, ◌^◌, ◌≤◌, ◌<◌, ◌==◌, ◌&&◌, Bool, true, false, if◌then◌else◌, List, [], ◌∷◌, length, get_or, take, drop, slice_index, refl, sym, ◌∙◌, ap, subst, arith, lit<, w32}
+-- A safe walk keeps every run of a function in its sandbox.
+use Rattle.std.proofs.Common.{◌≡◌, ◌≢◌, inl, inr, pos, ℤ, ◌<ℤ◌, ℕ, zero, suc, ◌+◌, ◌-◌, ◌%◌, ◌^◌, ◌≤◌, ◌<◌, ◌==◌, ◌&&◌, Bool, true, false, if◌then◌else◌, List, [], ◌∷◌, length, get_or, take, drop, slice_index, refl, sym, ◌∙◌, ap, subst, arith, lit<}
 use Rattle.std.specs.Prelude.{nat_le, Contains}
 use Rattle.std.specs.List.{AllByRecursion}
 use Rattle.std.proofs.lemmas.Bool.Decides.{nat_tests}
-use Rattle.std.proofs.lemmas.List.{drop_more, get_or-drop}
-use mir.Val.{SFits}
-use Rattle.std.proofs.Math.Facts.{sfits_to_z}
-use Rattle.vw_bits.specs.Fields.{load, field}
+use Rattle.std.proofs.lemmas.List.{drop_more}
+use Rattle.vw_bits.specs.Fields.{load}
 use Rattle.vw_insn.specs.declared.instruction.Insn.{Insn}
 use Rattle.vw_insn.specs.declared.instruction.Insn.TheVariants as insn
+use Rattle.vw_insn.specs.declared.registers.Reg.TheVariants.{Rax}
+use Rattle.vw_insn.specs.declared.registers.Width.{Width}
 use Rattle.vw_insn.specs.declared.registers.Width.TheVariants.{W32}
+use Rattle.vw_insn.specs.declared.operands.Place.{Place}
+use Rattle.vw_insn.specs.declared.operands.Place.TheVariants as place
+use Rattle.vw_insn.specs.declared.operands.Source.{Source}
+use Rattle.vw_insn.specs.declared.operands.Source.TheVariants as source
 use Rattle.vw_insn.specs.Words.{Registers, Flags, put, word_of, low as low_bits}
 use Rattle.vw_insn.specs.Effect.{Write, raised}
-use Rattle.vw_app.specs.Spelling.{Spells, nop, ud2, mov_load, mov_store, ret, load_eax, store_eax, displacement}
-use Rattle.vw_app.specs.Walk.{BeginsAt, goes_on, IsNegative, Reaches, here, on, IsSafe}
-use Rattle.vw_app.specs.World.{Range, World, IsLaidOut, IsWithin, is_within, stack_range, heap_range}
-use Rattle.vw_app.specs.Module.{Function, module_of, bytes_from}
-use Rattle.vw_app.specs.Machine.{Bytes, Activation, State, Choice, Code, IsSpelledAt, loads, stored, is_in_write, Outcome, Went, Returned, Trapped, arrive, step}
+use Rattle.vw_layout.specs.declared.functions.Function.{Function}
+use Rattle.vw_app.specs.Walk.{BeginsAt, goes_on, IsSigned32, at_rdi, IsAtRdi, IsMove, IsJudged, IsNegative, Reaches, here, on, IsBuilt, IsSafe}
+use Rattle.vw_app.specs.World.{Range, World, IsLaidOut, IsWithin, is_within, loaded_range, stack_range, heap_range, IsIn}
+use Rattle.vw_app.specs.Module.{Module, bytes_from}
+use Rattle.vw_app.specs.Machine.{Bytes, Activation, State, Choice, Here, Code, IsSpelledAt, loads, stored, is_in_write, Outcome, Went, Returned, Trapped, arrive, step, function_range}
 use Rattle.vw_app.specs.Permitted.{Event, events, Permitted, StaysInside}
-use Rattle.vw_app.specs.Sandboxed.{IsKept, Onward, goes_on as went_on, returns, traps, StaysSafe, IsSandboxed}
-use Rattle.vw_app.proofs.OneFunctions.{byte_of_code}
-use Rattle.vw_app.proofs.Instances.{heap_ends, stack_ends, heap_or_stack, heap_address, load_same}
-
--- bytes of the image are those of the code
-code_bytes : (code : List ℕ) (w : World) (point len : ℕ) → point + len ≤ length code → bytes_from ((module_of code).byte w) (120 + point) len ≡ take len (drop point code)
-code_bytes code w point zero inside = refl
-code_bytes code w point (suc len) inside =
-    let here : point < length code = omega arith in
-    let next : (120 + point) + 1 ≡ 120 + (point + 1) = omega arith in
-    rw (drop_more code point 0 here, byte_of_code code point here, next, code_bytes code w (point + 1) len (omega arith)) refl
+use Rattle.vw_app.specs.Sandboxed.{IsInitial, IsKept, Onward, goes_on as went_on, returns, traps, StaysSafe}
+use Rattle.vw_app.proofs.Spellings.{begins_some}
+use Rattle.vw_app.proofs.Instances.{heap_ends, stack_ends, heap_or_stack, heap_address, load_same, host_elsewhere}
 
 -- what the trap test leaves out holds
 if_trapped : {E : Type 0} (P : E → Type 0) (trapped : Bool) (all : List E) → AllByRecursion P all → AllByRecursion P (if trapped then [] else all)
@@ -70,21 +66,6 @@ refuted false never = refl
 put_other : (f : Registers) (r v q : ℕ) → q ≢ r → put f r v q ≡ f q
 put_other f r v q other = chosen (q == r) v (f q) (grind (arith, nat_tests))
 
--- a displacement of four bytes fits 32 bits
-displacement_fits : (disp : List ℕ) → ((k : ℕ) → get_or disp k 0 < 256) → SFits w32 (displacement disp)
-unfolding field
-displacement_fits disp are_bytes = sfits_to_z {w = w32} {n = load (slice_index disp) 0 4} (record { fits = let a = are_bytes 0 in let b = are_bytes 1 in let c = are_bytes 2 in let d = are_bytes 3 in omega arith })
-
-pub take_bytes : (len : ℕ) (xs : List ℕ) → ((k : ℕ) → get_or xs k 0 < 256) → (k : ℕ) → get_or (take len xs) k 0 < 256
-take_bytes zero xs h k = lit< tt
-take_bytes (suc n) [] h k = lit< tt
-take_bytes (suc n) (x ∷ xs) h zero = h 0
-take_bytes (suc n) (x ∷ xs) h (suc k) = take_bytes n xs (λ j. h (suc j)) k
-
-only_one : (f g : Function) → Contains (f ∷ []) g → g ≡ f
-only_one f g (zero, inside, is) = sym is
-only_one f g (suc k, inside, is) = absurd (omega arith)
-
 both : (a b : Bool) → a && b ≡ true → (a ≡ true) × (b ≡ true)
 both true b h = (refl, h)
 both false b h = absurd (let e : false ≡ true = h in cc)
@@ -95,52 +76,82 @@ within_true a n range h = let t = both (nat_le range.from a) (nat_le (a + n) ran
 within_is_true : (a n : ℕ) (range : Range) → IsWithin a n range → is_within a n range ≡ true
 within_is_true a n range h = let one = h.0 in let two = h.1 in grind (arith, nat_tests)
 
-module _ (code : List ℕ) (are_bytes : (k : ℕ) → get_or code k 0 < 256) (safe : IsSafe code)
-    (w : World) (laid : IsLaidOut (module_of code).image 0 w)
+-- mov eax, [rdi + disp]
+abbrev load_eax : ℤ → Insn
+load_eax disp = insn.Mov W32 (place.Reg Rax) (source.Place (at_rdi disp))
+
+-- mov [rdi + disp], eax
+abbrev store_eax : ℤ → Insn
+store_eax disp = insn.Mov W32 (at_rdi disp) (source.Place (place.Reg Rax))
+
+-- The bytes of a function in every instance are this code, and it lies in a part of the image.
+pub record HoldsCode (m : Module) (f : Function) (code : List ℕ) : Type 0 where
+  pub listed : Contains m.functions f
+  pub sized : f.size ≡ length code
+  pub some : 1 ≤ length code
+  pub part : Range
+  pub of_image : Contains m.image part
+  pub part_low : part.from ≤ f.entry
+  pub part_high : f.entry + f.size ≤ part.to
+  pub byte : (w : World) (k : ℕ) → k < length code → m.byte w (f.entry + k) ≡ get_or code k 0
+
+-- bytes of the image are those of the code
+code_bytes : {m : Module} {f : Function} {code : List ℕ} (held : HoldsCode m f code) (w : World) (point len : ℕ) → point + len ≤ length code → bytes_from (m.byte w) (f.entry + point) len ≡ take len (drop point code)
+code_bytes held w point zero inside = refl
+code_bytes {m} {f} {code} held w point (suc len) inside =
+    let here : point < length code = omega arith in
+    let next : (f.entry + point) + 1 ≡ f.entry + (point + 1) = omega arith in
+    rw (drop_more code point 0 here, held.byte w point here, next, code_bytes held w (point + 1) len (omega arith)) refl
+
+module _ (m : Module) (function : Function) (code : List ℕ) (code_held : HoldsCode m function code) (built : IsBuilt code) (safe : IsSafe code)
+    (w : World) (laid : IsLaidOut m.image m.imports w)
     (entered : Registers) (low : w.stack_low ≤ entered 4) (high : entered 4 + 4104 ≤ w.stack_high) (rdi : entered 7 ≡ w.heap) where
   -- the activation of the function
   abbrev top : (ℕ → Bool) → Activation
-  top written = record { entry = w.load + 120; rsp0 = entered 4; back = w.host_return; written = written }
+  top written = record { entry = w.load + function.entry; rsp0 = entered 4; back = w.host_return; written = written }
 
   abbrev state : Registers → ℕ → Flags → Bytes → (ℕ → Bool) → State
   state registers rip flags bytes written = record { registers = registers; rip = rip; flags = flags; bytes = bytes; active = top written ∷ [] }
-
-  abbrev function : Function
-  function = record { entry = 120; size = length code }
 
   -- what holds before each step: only rax was written of the registers, and nothing of the stack
   record Holds (registers : Registers) (rip : ℕ) (bytes : Bytes) : Type 0 where
     point : ℕ
     reached : Reaches code point
     inside : point < length code
-    at : rip ≡ w.load + 120 + point
+    at : rip ≡ w.load + function.entry + point
     same : (q : ℕ) → q ≢ 0 → registers q ≡ entered q
     return : load bytes (entered 4) 8 ≡ w.host_return
 
-  stands : (registers : Registers) (rip : ℕ) (bytes : Bytes) (written : ℕ → Bool) (held : Holds registers rip bytes) (i : Insn) (len : ℕ) → BeginsAt code held.point i len → IsSpelledAt (module_of code) w (top written) rip i len
+  stands : (registers : Registers) (rip : ℕ) (bytes : Bytes) (written : ℕ → Bool) (held : Holds registers rip bytes) (i : Insn) (len : ℕ) → BeginsAt code held.point i len → IsSpelledAt m w (top written) rip i len
   stands registers rip bytes written held i len begins =
       let at = held.at in
       let inside = begins.inside in
-      let offset : rip - w.load ≡ 120 + held.point = omega arith in
+      let sized = code_held.sized in
+      let offset : rip - w.load ≡ function.entry + held.point = omega arith in
       record {
         function = function;
-        of_top = ((0, lit< tt, refl), refl);
+        of_top = (code_held.listed, refl);
         inside = (omega arith, omega arith);
-        spelled = rw (offset, code_bytes code w held.point len inside) begins.spelled;
+        spelled = rw (offset, code_bytes code_held w held.point len inside) begins.spelled;
       }
 
-  elsewhere : (rip point : ℕ) → rip ≡ w.load + 120 + point → point < length code → rip ≢ w.host_return
-  elsewhere rip point at inside is_host = laid.hosts_outside.0.1.0 (omega arith, omega arith)
+  elsewhere : (rip point : ℕ) → rip ≡ w.load + function.entry + point → point < length code → rip ≢ w.host_return
+  elsewhere rip point at inside is_host =
+      let sized = code_held.sized in
+      let low_end = code_held.part_low in
+      let high_end = code_held.part_high in
+      host_elsewhere laid code_held.part code_held.of_image rip (omega arith) (omega arith) is_host
 
-  stays_inside : (rip point : ℕ) (written : ℕ → Bool) → rip ≡ w.load + 120 + point → point < length code → StaysInside (module_of code) w (top written) rip
-  stays_inside rip point written at inside = (function, ((0, lit< tt, refl), refl), (omega arith, omega arith))
+  stays_inside : (rip point : ℕ) (written : ℕ → Bool) → rip ≡ w.load + function.entry + point → point < length code → StaysInside m w (top written) rip
+  stays_inside rip point written at inside =
+      let sized = code_held.sized in
+      (function, (code_held.listed, refl), (omega arith, omega arith))
 
   -- the next point of the walk
   next_inside : (point len : ℕ) (i : Insn) → Reaches code point → BeginsAt code point i len → goes_on i ≡ true → point + len < length code
   next_inside point len i reached begins going =
-      let fits = begins.inside in
-      let not_end : point + len ≢ length code = λ end. safe.stays (subst (Reaches code) end (on point len i reached begins going)) in
-      omega arith
+      let next = safe.stands (point + len) (on point len i reached begins going) in
+      omega (arith, next.2.inside, begins_some next.2)
 
   next_holds : (registers : Registers) (rip : ℕ) (bytes : Bytes) (held : Holds registers rip bytes) (i : Insn) (len : ℕ) → BeginsAt code held.point i len → goes_on i ≡ true
       → (after : Registers) (stack : Bytes) → ((q : ℕ) → q ≢ 0 → after q ≡ entered q) → load stack (entered 4) 8 ≡ w.host_return → Holds after (rip + len) stack
@@ -156,10 +167,10 @@ module _ (code : List ℕ) (are_bytes : (k : ℕ) → get_or code k 0 < 256) (sa
       }
 
   -- the access of a MOV lies in the heap's reservation
-  in_heap : (registers : Registers) (rip : ℕ) (bytes : Bytes) (held : Holds registers rip bytes) (i : Insn) (len : ℕ) (disp : List ℕ) → BeginsAt code held.point i len → (displacement disp <ℤ pos 0 → IsNegative i)
-      → ((k : ℕ) → get_or disp k 0 < 256) → IsWithin ((registers 7 + word_of (displacement disp)) % 2 ^ 64) 4 (heap_range w)
-  in_heap registers rip bytes held i len disp begins negative disp_bytes =
-      heap_address w.heap (registers 7) (displacement disp) (held.same 7 (omega arith) ∙ rdi) (displacement_fits disp disp_bytes)
+  in_heap : (registers : Registers) (rip : ℕ) (bytes : Bytes) (held : Holds registers rip bytes) (i : Insn) (len : ℕ) (disp : ℤ) → IsSigned32 disp → BeginsAt code held.point i len → (disp <ℤ pos 0 → IsNegative i)
+      → IsWithin ((registers 7 + word_of disp) % 2 ^ 64) 4 (heap_range w)
+  in_heap registers rip bytes held i len disp fits begins negative =
+      heap_address w.heap (registers 7) disp (held.same 7 (omega arith) ∙ rdi) fits
       (λ below. safe.above held.point (record { reached = held.reached; instruction = i; len = len; stands = begins; negative = negative below }))
       (heap_ends laid)
 
@@ -177,13 +188,13 @@ module _ (code : List ℕ) (are_bytes : (k : ℕ) → get_or code k 0 < 256) (sa
   module _ (Rest : State → Type 0) (choice : Choice) (registers : Registers) (rip : ℕ) (flags : Flags) (bytes : Bytes) (written : ℕ → Bool) (held : Holds registers rip bytes)
       (later : (registers : Registers) (rip : ℕ) (flags : Flags) (bytes : Bytes) (written : ℕ → Bool) → Holds registers rip bytes → Rest (state registers rip flags bytes written)) where
     abbrev MayHappen : Insn → ℕ → Event → Type 0
-    MayHappen i len = Permitted (module_of code) w (state registers rip flags bytes written) (Code i len)
+    MayHappen i len = Permitted m w (state registers rip flags bytes written) (Code i len)
 
     -- each event of the step is permitted, and the run goes on
     abbrev IsSafeStep : Insn → ℕ → Type 0
     IsSafeStep i len =
-        AllByRecursion (MayHappen i len) (events (module_of code) w (state registers rip flags bytes written) (Code i len) choice)
-        × Onward entered Rest (step (module_of code) w (state registers rip flags bytes written) (Code i len) choice)
+        AllByRecursion (MayHappen i len) (events m w (state registers rip flags bytes written) (Code i len) choice)
+        × Onward entered Rest (step m w (state registers rip flags bytes written) (Code i len) choice)
 
     -- where the walk goes on, so does the run
     goes_to : (i : Insn) (len : ℕ) (begins : BeginsAt code held.point i len) → goes_on i ≡ true → (after : Registers) (stack : Bytes) (marks : ℕ → Bool) → ((q : ℕ) → q ≢ 0 → after q ≡ entered q) → load stack (entered 4) 8 ≡ w.host_return
@@ -192,7 +203,7 @@ module _ (code : List ℕ) (are_bytes : (k : ℕ) → get_or code k 0 < 256) (sa
         let next = next_holds registers rip bytes held i len begins going after stack same return in
         (elsewhere (rip + len) next.point next.at next.inside, later after (rip + len) flags stack marks next)
 
-    next_permitted : (i : Insn) (len : ℕ) (begins : BeginsAt code held.point i len) → goes_on i ≡ true → StaysInside (module_of code) w (top written) (rip + len)
+    next_permitted : (i : Insn) (len : ℕ) (begins : BeginsAt code held.point i len) → goes_on i ≡ true → StaysInside m w (top written) (rip + len)
     next_permitted i len begins going =
         let next = next_holds registers rip bytes held i len begins going registers bytes held.same held.return in
         stays_inside (rip + len) next.point written next.at next.inside
@@ -205,24 +216,24 @@ module _ (code : List ℕ) (are_bytes : (k : ℕ) → get_or code k 0 < 256) (sa
     ud2_step : (len : ℕ) → IsSafeStep insn.Ud2 len
     ud2_step len = (if_trapped (MayHappen insn.Ud2 len) _ [] tt, onward_if _ _ traps)
 
-    load_step : (len : ℕ) (disp : List ℕ) → ((k : ℕ) → get_or disp k 0 < 256) → BeginsAt code held.point (load_eax (displacement disp)) len → IsSafeStep (load_eax (displacement disp)) len
-    load_step len disp disp_bytes begins =
-        let i = load_eax (displacement disp) in
-        let heap = in_heap registers rip bytes held i len disp begins (λ h. h) disp_bytes in
+    load_step : (len : ℕ) (disp : ℤ) → IsSigned32 disp → BeginsAt code held.point (load_eax disp) len → IsSafeStep (load_eax disp) len
+    load_step len disp fits begins =
+        let i = load_eax disp in
+        let heap = in_heap registers rip bytes held i len disp fits begins (λ h. h) in
         let onward = goes_to i len begins refl _ bytes _ (λ q other. put_other registers 0 _ q other ∙ held.same q other) held.return in
         ((inl heap, one_event (MayHappen i len) _ _ (next_permitted i len begins refl)), onward_if _ _ (arrives w _ onward.0 onward.1))
 
-    store_step : (len : ℕ) (disp : List ℕ) → ((k : ℕ) → get_or disp k 0 < 256) → BeginsAt code held.point (store_eax (displacement disp)) len → IsSafeStep (store_eax (displacement disp)) len
-    store_step len disp disp_bytes begins =
-        let i = store_eax (displacement disp) in
-        let heap = in_heap registers rip bytes held i len disp begins (λ h. h) disp_bytes in
-        let v : Write = record { at = (registers 7 + word_of (displacement disp)) % 2 ^ 64; size = 4; value = low_bits W32 (registers 0) } in
+    store_step : (len : ℕ) (disp : ℤ) → IsSigned32 disp → BeginsAt code held.point (store_eax disp) len → IsSafeStep (store_eax disp) len
+    store_step len disp fits begins =
+        let i = store_eax disp in
+        let heap = in_heap registers rip bytes held i len disp fits begins (λ h. h) in
+        let v : Write = record { at = (registers 7 + word_of disp) % 2 ^ 64; size = 4; value = low_bits W32 (registers 0) } in
         let kept : load (stored w bytes (v ∷ [])) (entered 4) 8 ≡ w.host_return = load_same bytes (stored w bytes (v ∷ [])) (entered 4) 8 (λ q one two. heap_write bytes v heap q) ∙ held.return in
         let onward = goes_to i len begins refl registers (stored w bytes (v ∷ [])) _ held.same kept in
         ((inl heap, one_event (MayHappen i len) _ _ (next_permitted i len begins refl)), onward_if _ _ (arrives w _ onward.0 onward.1))
 
     -- the return address is read from the stack
-    return_address : (a : ℕ) → a ≡ entered 4 → loads (module_of code) w bytes choice (record { at = a; size = 8 }) ≡ w.host_return
+    return_address : (a : ℕ) → a ≡ entered 4 → loads m w bytes choice (record { at = a; size = 8 }) ≡ w.host_return
     return_address a is =
         let ends = stack_ends laid in
         let room = laid.room_below_heap in
@@ -254,31 +265,38 @@ module _ (code : List ℕ) (are_bytes : (k : ℕ) → get_or code k 0 < 256) (sa
         let back = return_address _ at_top in
         (((at_top, refl), one_event (MayHappen insn.Ret len) _ _ back), onward_if _ _ (returns_by _ _ (grind (arith, nat_tests)) kept))
 
+    move_step : (w : Width) (dst : Place) (src : Source) (len : ℕ) → w ≡ W32 → IsMove dst src → BeginsAt code held.point (insn.Mov w dst src) len → IsSafeStep (insn.Mov w dst src) len
+    move_step w dst (source.Imm n) len is move begins = absurd move
+    move_step w dst (source.Place src) len is (inl (eax, (disp, fits, at))) begins =
+        let same : insn.Mov w dst (source.Place src) ≡ load_eax disp = rw (is, eax, at) refl in
+        subst (λ (i : Insn). IsSafeStep i len) (sym same) (load_step len disp fits (subst (λ (i : Insn). BeginsAt code held.point i len) same begins))
+    move_step w dst (source.Place src) len is (inr ((disp, fits, at), eax)) begins =
+        let same : insn.Mov w dst (source.Place src) ≡ store_eax disp = rw (is, eax, at) refl in
+        subst (λ (i : Insn). IsSafeStep i len) (sym same) (store_step len disp fits (subst (λ (i : Insn). BeginsAt code held.point i len) same begins))
+
     -- the step of whatever stands at the point
-    one : {spelling : List ℕ} {i : Insn} (len : ℕ) → ((k : ℕ) → get_or spelling k 0 < 256) → Spells spelling i → BeginsAt code held.point i len → IsSafeStep i len
-    one len all_bytes nop begins = nop_step len begins
-    one len all_bytes ud2 begins = ud2_step len
-    one len all_bytes (mov_load disp four) begins = load_step len disp (λ k. all_bytes (suc (suc k))) begins
-    one len all_bytes (mov_store disp four) begins = store_step len disp (λ k. all_bytes (suc (suc k))) begins
-    one len all_bytes ret begins = ret_step len
+    one : (i : Insn) (len : ℕ) → IsJudged i → BeginsAt code held.point i len → IsSafeStep i len
+    one insn.Nop len judged begins = nop_step len begins
+    one insn.Ud2 len judged begins = ud2_step len
+    one insn.Ret len judged begins = ret_step len
+    one (insn.Mov w dst src) len judged begins = move_step w dst src len judged.0 judged.1 begins
+    one _ len judged begins = absurd judged
 
-  spelled_bytes : (point len : ℕ) (k : ℕ) → get_or (take len (drop point code)) k 0 < 256
-  spelled_bytes point len k = take_bytes len (drop point code) (λ j. rw (get_or-drop point code j 0) (are_bytes (point + j))) k
-
-  runs : (choices : List Choice) (registers : Registers) (rip : ℕ) (flags : Flags) (bytes : Bytes) (written : ℕ → Bool) → Holds registers rip bytes → StaysSafe (module_of code) w entered choices (state registers rip flags bytes written)
+  runs : (choices : List Choice) (registers : Registers) (rip : ℕ) (flags : Flags) (bytes : Bytes) (written : ℕ → Bool) → Holds registers rip bytes → StaysSafe m w entered choices (state registers rip flags bytes written)
   runs [] registers rip flags bytes written held = tt
   runs (choice ∷ choices) registers rip flags bytes written held =
-      let built = safe.built held.point held.reached held.inside in
-      let step = one (StaysSafe (module_of code) w entered choices) choice registers rip flags bytes written held (runs choices) built.1 (spelled_bytes held.point built.1) built.2.spelled built.2 in
-      (Code built.0 built.1, stands registers rip bytes written held built.0 built.1 built.2, step.0, step.1)
+      let found = safe.stands held.point held.reached in
+      let step = one (StaysSafe m w entered choices) choice registers rip flags bytes written held (runs choices) found.0 found.1 (built held.point held.reached found.0 found.1 found.2) found.2 in
+      (Code found.0 found.1, stands registers rip bytes written held found.0 found.1 found.2, step.0, step.1)
 
 -- A safe walk keeps every run of the function in its sandbox.
-pub sandboxed : (code : List ℕ) → ((k : ℕ) → get_or code k 0 < 256) → 1 ≤ length code → IsSafe code → IsSandboxed (module_of code)
-sandboxed code are_bytes some safe w laid f listed s initial choices =
-    let is : f ≡ record { entry = 120; size = length code } = only_one (record { entry = 120; size = length code }) f listed in
-    let at : s.rip ≡ w.load + 120 = initial.rip ∙ ap (λ (g : Function). w.load + g.entry) is in
-    let active : s.active ≡ record { entry = w.load + 120; rsp0 = s.registers 4; back = w.host_return; written = λ q. false } ∷ [] =
-    initial.active ∙ ap (λ (a : ℕ). let first : Activation = record { entry = a; rsp0 = s.registers 4; back = w.host_return; written = λ q. false } in first ∷ []) at in
-    subst (λ (a : List Activation). StaysSafe (module_of code) w s.registers choices (record { registers = s.registers; rip = s.rip; flags = s.flags; bytes = s.bytes; active = a })) (sym active)
-    (runs code are_bytes safe w laid s.registers initial.rsp_low initial.rsp_high initial.rdi choices s.registers s.rip s.flags s.bytes (λ q. false)
-    (record { point = 0; reached = here; inside = some; at = omega arith; same = λ q other. refl; return = initial.return }))
+pub sandboxed : (m : Module) (f : Function) (code : List ℕ) → HoldsCode m f code → IsBuilt code → IsSafe code
+    → (w : World) → IsLaidOut m.image m.imports w → (s : State) → IsInitial w f s → (choices : List Choice) → StaysSafe m w s.registers choices s
+sandboxed m f code held built safe w laid s initial choices =
+    let active : s.active ≡ record { entry = w.load + f.entry; rsp0 = s.registers 4; back = w.host_return; written = λ q. false } ∷ [] =
+    initial.active ∙ ap (λ (a : ℕ). let first : Activation = record { entry = a; rsp0 = s.registers 4; back = w.host_return; written = λ q. false } in first ∷ []) initial.rip in
+    let start = initial.rip in
+    let some = held.some in
+    subst (λ (a : List Activation). StaysSafe m w s.registers choices (record { registers = s.registers; rip = s.rip; flags = s.flags; bytes = s.bytes; active = a })) (sym active)
+    (runs m f code held built safe w laid s.registers initial.rsp_low initial.rsp_high initial.rdi choices s.registers s.rip s.flags s.bytes (λ q. false)
+    (record { point = 0; reached = here; inside = omega arith; at = omega arith; same = λ q other. refl; return = initial.return }))

@@ -1,11 +1,11 @@
-pub mod OneFunction
-pub mod Spelling
-pub mod Walk
-pub mod Found
 pub mod World
 pub mod Module
 pub mod Machine
 pub mod Permitted
 pub mod Sandboxed
+pub mod Walk
+pub mod Judged
+pub mod Found
+pub mod Lines
 pub mod Answer
 pub mod Laws

@@ -6,8 +6,9 @@ use Rattle.vw_insn.specs.declared.instruction.Insn.{Insn}
 use Rattle.vw_insn.specs.Words.{Registers, Flags}
 use Rattle.vw_insn.specs.Effect.{Open, Access, Write, After, Transfer, Next, Back, Stop, Unstated, may_trap, reads, effect}
 use Rattle.vw_app.specs.World.{Range, World, IsWithin, is_within, touches, heap_range, stack_range, guard_range, loaded_range}
-use Rattle.vw_app.specs.Module.{Module, Function, bytes_from}
-use Rattle.vw_app.specs.Spelling.{Spells}
+use Rattle.vw_layout.specs.declared.functions.Function.{Function}
+use Rattle.vw_app.specs.Module.{Module, bytes_from}
+use Rattle.vw_rows.specs.Spelling.{Spells}
 
 -- bytes by address
 abbrev pub Bytes : Type 0

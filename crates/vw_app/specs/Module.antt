@@ -1,12 +1,16 @@
 -- A module as the machine sees it: the bytes of its image and where its functions are.
-use Rattle.std.specs.Prelude.{ℕ, zero, suc, ◌+◌, Bool, List, [], ◌∷◌, length, slice_index, nat_lt}
+use Rattle.std.specs.Prelude.{ℕ, zero, suc, ◌+◌, ◌*◌, ◌||◌, Bool, List, [], ◌∷◌, map, length, unwrap_or, slice_index}
+use Rattle.std.specs.List.{list_any}
+use Rattle.vw_bits.specs.Headers.{segments_of}
+use Rattle.vw_bits.specs.Places.{is_among}
+use Rattle.vw_bits.specs.declared.records.Segment.{Segment}
+use Rattle.vw_dynamic.specs.Dynamic.{file_imports}
+use Rattle.vw_image.specs.Image.{image_of, image_byte}
+use Rattle.vw_image.specs.Words.{readable, bytes_at}
+use Rattle.vw_layout.specs.declared.functions.Function.{Function}
+use Rattle.vw_layout.specs.declared.tables.TableInfo.{TableInfo}
+use Rattle.vw_layout.specs.Layout.{declared_functions, declared_tables}
 use Rattle.vw_app.specs.World.{World, Range}
-use Rattle.vw_app.specs.OneFunction.{one_function, code_start}
-
--- a declared function; its entry counts from the load address
-pub record Function : Type 0 where
-  pub entry : ℕ
-  pub size : ℕ
 
 pub record Module : Type 0 where
   -- the parts of memory that its loadable segments take up, counted from the load address
@@ -15,6 +19,7 @@ pub record Module : Type 0 where
   pub byte : World → ℕ → ℕ
   -- the byte at an offset from the load address is one of the image that its functions may read
   pub is_readable : ℕ → Bool
+  -- the declared functions; their entries count from the load address
   pub functions : List Function
   -- how many functions of the host it imports
   pub imports : ℕ
@@ -24,16 +29,25 @@ abbrev pub bytes_from : (ℕ → ℕ) → ℕ → ℕ → List ℕ
 bytes_from bytes a zero = []
 bytes_from bytes a (suc n) = bytes a ∷ bytes_from bytes (a + 1) n
 
--- The module of one function. Its one segment holds the file's bytes from 0 to the end of the code
--- (gABI, "Program Header": p_offset 0, p_vaddr 0) with the rights to read and execute (PF_R and PF_X),
--- and no relocation changes them.
-abbrev pub module_of : List ℕ → Module
-module_of code =
-    let end = code_start + length code in
-    record {
-      image = record { from = 0; to = end } ∷ [];
-      byte = λ w a. slice_index (one_function code) a;
-      is_readable = λ a. nat_lt a end;
-      functions = record { entry = code_start; size = length code } ∷ [];
-      imports = 0;
-    }
+-- the memory of a segment (gABI, "Program Header": p_vaddr, p_memsz)
+abbrev pub segment_range : Segment → Range
+segment_range s = record { from = s.vaddr; to = s.vaddr + s.memsz }
+
+-- the byte at an address is one of the table, whose entries have sixteen bytes each
+abbrev pub is_in_table : ℕ → TableInfo → Bool
+is_in_table a table = is_among table.address (16 * length table.entries) a 1
+
+-- The module of a file. A byte of the image may be read where it is in the memory of a segment with the
+-- right to read and no relocation binds it to an import, or where it is one of a declared table.
+unfoldable pub module_of : List ℕ → Module
+module_of file = record {
+  image = map segment_range (segments_of file);
+  byte = λ w a. image_byte (image_of file) w.load (slice_index w.hosts) a;
+  is_readable = λ a. readable (image_of file) a 1 || list_any (is_in_table a) (declared_tables file);
+  functions = declared_functions file;
+  imports = length (file_imports file);
+}
+
+-- the bytes of a function in the file
+unfoldable pub code_of : List ℕ → Function → List ℕ
+code_of file f = unwrap_or (bytes_at (image_of file) f.entry f.size) []

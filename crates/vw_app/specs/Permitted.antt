@@ -1,8 +1,9 @@
 -- The events of a step, and which of them a sandbox permits.
-use Rattle.std.specs.Prelude.{◌≡◌, ℕ, ◌+◌, ◌-◌, ◌<◌, ◌≤◌, ◌⊎◌, true, if◌then◌else◌, List, [], ◌∷◌, ◌++◌, map}
+use Rattle.std.specs.Prelude.{◌≡◌, ℕ, ◌+◌, ◌-◌, ◌<◌, ◌≤◌, ◌⊎◌, true, if◌then◌else◌, List, [], ◌∷◌, ◌++◌, map, Contains}
 use Rattle.vw_insn.specs.Effect.{Transfer, Next, Back, Stop, Unstated, Way, Ordinary, Return, Unlisted, way, reads}
-use Rattle.vw_app.specs.World.{World, IsWithin, heap_range, globals_range}
-use Rattle.vw_app.specs.Module.{Module, Function}
+use Rattle.vw_app.specs.World.{Range, World, IsWithin, IsIn, loaded_range, heap_range, globals_range}
+use Rattle.vw_layout.specs.declared.functions.Function.{Function}
+use Rattle.vw_app.specs.Module.{Module}
 use Rattle.vw_app.specs.Machine.{Activation, State, Choice, Here, Code, Nowhere, IsOf, function_range, after_insn, accesses, does_trap}
 
 pub data Event : Type 0 where
@@ -30,7 +31,9 @@ module _ (m : Module) (w : World) where
 
   -- each of n bytes from a is a byte of the image that may be read
   abbrev pub IsReadable : ℕ → ℕ → Type 0
-  IsReadable a n = (q : ℕ) → a ≤ q → q < a + n → (w.load ≤ q) × (m.is_readable (q - w.load) ≡ true)
+  IsReadable a n =
+      (q : ℕ) → a ≤ q → q < a + n
+      → (part : Range) × Contains m.image part × IsIn q (loaded_range w part) × (m.is_readable (q - w.load) ≡ true)
 
   -- An instruction may read n bytes from a: in the heap's reservation, the instance word as a whole,
   -- the globals, readable bytes of the image, bytes of its frame that it has written, and the 4,096

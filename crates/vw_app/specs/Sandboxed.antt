@@ -4,8 +4,9 @@ use Rattle.std.specs.List.{AllByRecursion}
 use Rattle.vw_bits.specs.Fields.{load}
 use Rattle.vw_insn.specs.Words.{Registers}
 use Rattle.vw_app.specs.World.{World, IsLaidOut}
-use Rattle.vw_app.specs.OneFunction.{IsOneFunction}
-use Rattle.vw_app.specs.Module.{Module, Function, module_of}
+use Rattle.vw_layout.specs.Layout.{IsModule}
+use Rattle.vw_layout.specs.declared.functions.Function.{Function}
+use Rattle.vw_app.specs.Module.{Module, module_of}
 use Rattle.vw_app.specs.Machine.{State, Choice, Here, StandsAt, Outcome, Went, Returned, Trapped, step}
 use Rattle.vw_app.specs.Permitted.{events, Permitted}
 
@@ -57,4 +58,4 @@ IsSandboxed m =
 
 -- the file is a module that stays in its sandbox
 abbrev pub IsSandboxedFile : List ℕ → Type 0
-IsSandboxedFile file = (code : List ℕ) × IsOneFunction file code × IsSandboxed (module_of code)
+IsSandboxedFile file = IsModule file × IsSandboxed (module_of file)

@@ -1,5 +1,5 @@
 ghost use Rattle.std.specs.Prelude.{◌≡◌};
-ghost use Rattle.vw_app.specs.Answer.{check_name};
+ghost use Rattle.vw_app.specs.Lines.{check_name};
 
 /// A condition that safe code meets at each point of its walk.
 #[derive(Clone, Copy, Debug, PartialEq, Eq)]

@@ -2,11 +2,14 @@
 #![tactic(auto)]
 
 mod check;
+mod info;
+mod judged;
 mod laws;
-mod one_function;
+mod lines;
 mod program;
-mod spelling;
+mod request;
 mod status;
+mod verdict;
 mod walk;
 
 use program::run;
@@ -38,5 +41,7 @@ fn words(rt: &HostRuntime) -> std::io::Result<Vec<String>> {
 
 #[cfg(test)]
 mod rule_tests;
+#[cfg(test)]
+mod smallest;
 #[cfg(test)]
 mod tests;

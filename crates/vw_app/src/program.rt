@@ -1,27 +1,27 @@
-ghost use Rattle.std.specs.Prelude.{◌≡◌, ◌≢◌, ℕ, ◌^◌, ◌≤◌, ◌<◌, ◌⊎◌, ◌↔◌, List, length, map, string_bytes, true, Some, IsTrue, IfOk, IfSome};
+ghost use Rattle.std.specs.Prelude.{◌≡◌, ◌≢◌, ℕ, List, map, string_bytes, IfOk};
 ghost use Rattle.vw_outside.specs.Shelf.{Rose};
 ghost use Rattle.vw_outside.specs.Sink.{Appended, AppendedFront};
-ghost use Rattle.vw_app.specs.Answer.{Judged, AreTold, AsksToVerify, Reply, ReadFailed, standard_input, unsafe_line};
-ghost use Rattle.vw_app.specs.Sandboxed.{IsSandboxedFile};
-ghost use Rattle.vw_app.specs.Found.{check_number};
+ghost use Rattle.vw_layout.specs.Layout.{IsWhole};
+ghost use Rattle.vw_app.specs.Module.{module_of};
+ghost use Rattle.vw_app.specs.Answer.{Answered, Judged, AreTold, Asks, Reply, ReadFailed};
+ghost use Rattle.vw_app.specs.Sandboxed.{IsSandboxed, IsSandboxedFile};
 
-use crate::check::Check;
-use crate::one_function::code_of;
+use crate::info::info_text;
+use crate::lines::{malformed_text, safe_text, text_of, unsafe_text};
 use crate::status::Status;
-use crate::walk::{Finding, walk};
+use crate::laws::safe_code_is_sandboxed;
+use crate::verdict::{Failure, Verdict, judge};
+use crate::request::{Command, request_of};
 use std::alloc::Global;
-use vw_bits::{OutOfMemory, Text};
+use vw_bits::{List, OutOfMemory, Text};
+use vw_layout::{Module, ModuleError};
 use vw_outside::{ReadError, Shelf, Sink, read_all, write_all_of};
 
-/// The name of the file that is read from standard input.
-const STANDARD_INPUT: &str = "-";
 /// The most bytes that a module's file may have.
 const LONGEST_FILE: u64 = 0x400_0000;
 
 const USAGE: &[u8] =
     b"usage: vw verify FILE | report FILE | check FILE REPORT | list FILE | info FILE | trace FILE FUNCTION STEPS NUMBER | make FUNCTIONS NUMBER | selftest FUNCTIONS NUMBER\n";
-
-const SAFE: &[u8] = b"safe, functions 1\n";
 
 const NOT_BUILT: &[u8] = b"not built yet\n";
 
@@ -38,88 +38,79 @@ pub fn run<F: Shelf, K: Sink>(
     // The status is that of the defined answer to the words and the file, and its text is written.
     ensures replied { result.0 ≢ 5 → result.0 ≢ 6
         → (text : List ℕ) × Appended (K.written sink.old) (K.written sink.new) text
-        × Reply (map string_bytes words.now) (F.told shelf.old standard_input)
+        × Reply (map string_bytes words.now) (F.told shelf.old)
         (ReadFailed (F.faults shelf.old) (F.faults shelf.new) (F.opened shelf.new) (F.failed shelf.new))
         result.0 text }
 
-    // Where the answer is safe, every run of every instance stays in its sandbox.
-    ensures safe { result.0 ≡ 0 → (file : List ℕ) × AreTold (F.told shelf.old standard_input) file × IsSandboxedFile file }
+    // Where the verdict is safe, every run of every function in every instance stays in its sandbox.
+    ensures safe { (name : List ℕ) → Asks (map string_bytes words.now) Command.Verify name → result.0 ≡ 0
+        → (file : List ℕ) × AreTold (F.told shelf.old name) file × IsSandboxedFile file }
 
     // A write failed: a front part of the text of the status that is replaced was written.
     ensures write_fault { result.0 ≡ 5
         → Rose (K.faults sink.old) (K.faults sink.new)
         × (status : ℕ) × (text : List ℕ) × AppendedFront (K.written sink.old) (K.written sink.new) text
-        × Reply (map string_bytes words.now) (F.told shelf.old standard_input)
+        × Reply (map string_bytes words.now) (F.told shelf.old)
         (ReadFailed (F.faults shelf.old) (F.faults shelf.new) (F.opened shelf.new) (F.failed shelf.new))
         status text }
 
     // Memory was refused before the text was composed.
-    ensures memory { result.0 ≡ 6 → (sink.new ≡ sink.old) × AsksToVerify (map string_bytes words.now) }
+    ensures memory { result.0 ≡ 6 → (sink.new ≡ sink.old) × (command : Command) × (name : List ℕ) × Asks (map string_bytes words.now) command name }
 {
-    if !asks_to_verify(words) {
+    let Some((command, name)) = request_of(words) else {
         return finish(sink, Status::USAGE, USAGE);
-    }
-    match read_all(alloc, shelf, STANDARD_INPUT, LONGEST_FILE) {
-        Ok(file) => match judge(alloc, file.as_slice()) {
+    };
+    match read_all(alloc, shelf, name, LONGEST_FILE) {
+        Ok(file) => match answer(alloc, command, file) {
             Ok((status, text)) => finish(sink, status, text.as_slice()),
             Err(OutOfMemory) => Status::OUT_OF_MEMORY,
         },
         Err(ReadError::Fault) => finish(sink, Status::READ_FAULT, READ_FAULT),
-        Err(ReadError::TooLong) => finish(sink, Status::NOT_BUILT, NOT_BUILT),
+        Err(ReadError::TooLong) => match malformed_text(alloc, 1, LONGEST_FILE) {
+            Ok(text) => finish(sink, Status::MALFORMED, text.as_slice()),
+            Err(OutOfMemory) => Status::OUT_OF_MEMORY,
+        },
         Err(ReadError::Memory(OutOfMemory)) => Status::OUT_OF_MEMORY,
     }
 }
 
-/// Whether the words ask for the verdict on standard input.
-fn asks_to_verify(words: &[String]) -> bool
-    ensures { IsTrue result ↔ AsksToVerify (map string_bytes words.now) }
-{
-    match words {
-        [command, file] => is_text(command, "verify") && is_text(file, STANDARD_INPUT),
-        _ => false,
-    }
-}
-
-fn is_text(word: &String, text: &str) -> bool
-    ensures { IsTrue result ↔ (string_bytes word.now ≡ text.now) }
-{
-    word.as_str() == text
-}
-
-/// The status and the line for the bytes of a file.
-fn judge(alloc: Global, file: &[u8]) -> Result<(Status, Text), OutOfMemory>
-    ensures judged { IfOk result (λ reply. Judged file.now reply.0.0 reply.1) }
-    ensures safe { IfOk result (λ reply. reply.0.0 ≡ 0 → IsSandboxedFile file.now) }
+/// The status and the text that a command gives for the bytes of its file.
+fn answer(alloc: Global, command: Command, file: List<u8>) -> Result<(Status, Text), OutOfMemory>
+    ensures answered { IfOk result (λ reply. Answered command file reply.0.0 reply.1) }
+    ensures safe { IfOk result (λ reply. command ≡ Command.Verify → reply.0.0 ≡ 0 → IsSandboxedFile file) }
     ensures no_fault { IfOk result (λ reply. reply.0.0 ≢ 5) }
+    ensures no_want { IfOk result (λ reply. reply.0.0 ≢ 6) }
 {
-    let Some(code) = code_of(alloc, file)? else {
-        return Ok((Status::NOT_BUILT, text_of(alloc, NOT_BUILT)?));
-    };
-    match walk(code) {
-        Finding::Safe => Ok((Status::SAFE, text_of(alloc, SAFE)?)),
-        Finding::Fails { at, check } => Ok((Status::UNSAFE, unsafe_text(alloc, at, check)?)),
-        Finding::NotBuilt => Ok((Status::NOT_BUILT, text_of(alloc, NOT_BUILT)?)),
+    match Module::read(alloc, file) {
+        Ok(module) => match command {
+            Command::Verify => verify(alloc, &module),
+            Command::Info => Ok((Status::SAFE, info_text(alloc, &module)?)),
+        },
+        Err(ModuleError::Malformed { rule, offset }) => {
+            Ok((Status::MALFORMED, malformed_text(alloc, rule, offset)?))
+        }
+        Err(ModuleError::Memory(OutOfMemory)) => Err(OutOfMemory),
     }
 }
 
-fn text_of(alloc: Global, line: &[u8]) -> Result<Text, OutOfMemory>
-    ensures { IfOk result (λ text. text ≡ line.now) }
+/// The status and the line of the verdict on a module.
+fn verify(alloc: Global, loaded: &Module) -> Result<(Status, Text), OutOfMemory>
+    requires { IsWhole loaded.now }
+    ensures judged { IfOk result (λ reply. Judged loaded.now.image.bytes reply.0.0 reply.1) }
+    ensures safe { IfOk result (λ reply. reply.0.0 ≡ 0 → IsSandboxed (module_of loaded.now.image.bytes)) }
+    ensures no_fault { IfOk result (λ reply. reply.0.0 ≢ 5) }
+    ensures no_want { IfOk result (λ reply. reply.0.0 ≢ 6) }
 {
-    let mut text = Text::new(alloc);
-    text.push(line)?;
-    Ok(text)
-}
-
-fn unsafe_text(alloc: Global, at: usize, check: Check) -> Result<Text, OutOfMemory>
-    ensures { IfOk result (λ text. text ≡ unsafe_line at (check_number check)) }
-{
-    let mut text = Text::new(alloc);
-    text.push(b"unsafe, f+0x")?;
-    text.hex(at as u64, 1)?;
-    text.push(b", ")?;
-    text.push(check.name())?;
-    text.push(b"\n")?;
-    Ok(text)
+    safe_code_is_sandboxed();
+    let functions = loaded.functions.as_slice();
+    match judge(loaded) {
+        Verdict::Safe => Ok((Status::SAFE, safe_text(alloc, functions.len())?)),
+        Verdict::Unsafe(Failure { function, at, check }) => {
+            let name = functions[function].name.as_slice();
+            Ok((Status::UNSAFE, unsafe_text(alloc, name, at, check)?))
+        }
+        Verdict::NotBuilt => Ok((Status::NOT_BUILT, text_of(alloc, NOT_BUILT)?)),
+    }
 }
 
 /// Writes the text and answers its status, or that the write failed.

@@ -7,6 +7,8 @@ impl Status {
     pub const SAFE: Status = Status(0);
     /// A check fails.
     pub const UNSAFE: Status = Status(1);
+    /// A rule of modules breaks.
+    pub const MALFORMED: Status = Status(2);
     /// The words are none of the program's forms.
     pub const USAGE: Status = Status(3);
     /// A file was not read.

@@ -1,6 +1,6 @@
 ghost use Rattle.std.specs.Prelude.{◌≡◌, ◌^◌, ◌≤◌, ◌<◌, Some, length, IfOk};
 
-use crate::one_function::module_with;
+use crate::smallest::smallest_module;
 use crate::program::run;
 use crate::status::Status;
 use bitflags::Flags;
@@ -54,22 +54,16 @@ fn answer<F: Shelf>(
     Ok((status, sink))
 }
 
-fn module(alloc: Global, code: &[u8]) -> Result<Text, Fail>
-    requires { length code.now ≤ 2 ^ 20 }
-{
-    Ok(module_with(alloc, code)?)
-}
-
-// Functions on standard input, by their code.
+// Functions by their code: safe ones, checks that fail, and instructions that are not judged.
 #[test]
 fn verdicts(rt: HostRuntime) -> Result<(), Fail> {
     let alloc = rt.alloc();
-    let cases: [(&str, u8, &str); 9] = [
+    let cases: [(&str, u8, &str); 14] = [
         ("8b8700000000c3", 0, "safe, functions 1\n"),
         ("8b87f8ffffffc3", 1, "unsafe, f+0x0, C4 address\n"),
         ("8b87f8ffffff90", 1, "unsafe, f+0x7, C1 code\n"),
         ("8987ffffff7f0f0b", 0, "safe, functions 1\n"),
-        ("4090c3", 8, "not built yet\n"),
+        ("4090c3", 0, "safe, functions 1\n"),
         ("90", 1, "unsafe, f+0x1, C1 code\n"),
         ("0f0b", 0, "safe, functions 1\n"),
         (
@@ -77,12 +71,17 @@ fn verdicts(rt: HostRuntime) -> Result<(), Fail> {
             1,
             "unsafe, f+0x2, C4 address\n",
         ),
-        ("90900f0c", 8, "not built yet\n"),
+        ("f290c3", 1, "unsafe, f+0x0, C1 code\n"),
+        ("8b07c3", 0, "safe, functions 1\n"),
+        ("908b", 1, "unsafe, f+0x1, C1 code\n"),
+        ("8b47f8c3", 1, "unsafe, f+0x0, C4 address\n"),
+        ("90ebfe", 8, "not built yet\n"),
+        ("8b0fc3", 8, "not built yet\n"),
     ];
     for (hex, status, text) in cases {
         let code = from_hex(alloc, hex)?;
         assert!(rt; code.len() <= 100);
-        let file = module(alloc, code.as_slice())?;
+        let file = smallest_module(alloc, code.as_slice())?;
         let mut shelf = shelf(alloc, "-", file.as_slice(), &[])?;
         expect(&rt, &["verify", "-"], &mut shelf, &[], (status, text))?;
     }
@@ -123,8 +122,8 @@ fn expect<F: Shelf>(
     Ok(())
 }
 
-fn heap_read(alloc: Global) -> Result<Text, Fail> {
-    module(alloc, &[0x8B, 0x87, 0, 0, 0, 0, 0xC3])
+fn heap_read(alloc: Global) -> Result<Vec<u8>, Fail> {
+    smallest_module(alloc, &[0x8B, 0x87, 0, 0, 0, 0, 0xC3])
 }
 
 // Words that are no form of the program.
@@ -136,8 +135,9 @@ fn words(rt: HostRuntime) -> Result<(), Fail> {
         &["verify"],
         &["-", "verify"],
         &["verify", "-", "-"],
-        &["verify", "m"],
         &["list", "-"],
+        &["verify", "m", "m"],
+        &["info"],
     ] {
         let mut shelf = shelf(rt.alloc(), "-", file.as_slice(), &[])?;
         expect(&rt, words, &mut shelf, &[], (3, USAGE))?;
@@ -168,26 +168,46 @@ fn faults(rt: HostRuntime) -> Result<(), Fail> {
     Ok(())
 }
 
-// No file, a file that is cut short, one with a byte more, and one longer than any module.
+// No bytes, a file that is cut short, one of another machine, a module without functions, one with a byte
+// behind it, and one longer than any module.
 #[test]
 fn files(rt: HostRuntime) -> Result<(), Fail> {
-    let file = heap_read(rt.alloc())?;
+    let alloc = rt.alloc();
+    let file = heap_read(alloc)?;
     let file = file.as_slice();
-    let short = &file[..file.len().min(375)];
-    let mut longer = file.to_vec(rt.alloc())?;
+    let empty = smallest_module(alloc, &[])?;
+    let mut longer = file.to_vec(alloc)?;
     longer.push(0)?;
-    let longest = zeros(rt.alloc(), 67_108_865)?;
-    for bytes in [b"".as_slice(), short, longer.as_slice(), longest.as_slice()] {
-        let mut shelf = NeverFails::new(List::from_vec(bytes.to_vec(rt.alloc())?));
-        expect(
-            &rt,
-            &["verify", "-"],
-            &mut shelf,
-            &[],
-            (8, "not built yet\n"),
-        )?;
+    let longest = zeros(alloc, 67_108_865)?;
+    let short = &file[..file.len().min(375)];
+    for (bytes, status, text) in [
+        (b"".as_slice(), 2, "malformed, rule 2 at 0\n"),
+        (short, 2, "malformed, rule 13 at 40\n"),
+        (empty.as_slice(), 0, "safe, functions 0\n"),
+        (longer.as_slice(), 0, "safe, functions 1\n"),
+        (longest.as_slice(), 2, "malformed, rule 1 at 67108864\n"),
+    ] {
+        let mut shelf = NeverFails::new(List::from_vec(bytes.to_vec(alloc)?));
+        expect(&rt, &["verify", "m"], &mut shelf, &[], (status, text))?;
     }
     Ok(())
+}
+
+// What a module declares, and a file that is none.
+#[test]
+fn information(rt: HostRuntime) -> Result<(), Fail> {
+    let alloc = rt.alloc();
+    let file = heap_read(alloc)?;
+    let mut shelf = shelf(alloc, "m", file.as_slice(), &[])?;
+    let listed = "functions 1\n0x0000000000000078 7 f\ntables 0\nimports 0\n";
+    expect(&rt, &["info", "m"], &mut shelf, &[], (0, listed))?;
+    let mut other = file.as_slice().to_vec(alloc)?;
+    if let Some(machine) = other.get_mut(18) {
+        *machine = 3;
+    }
+    let mut shelf = NeverFails::new(List::from_vec(other));
+    let broken = (2, "malformed, rule 6 at 18\n");
+    expect(&rt, &["info", "m"], &mut shelf, &[], broken)
 }
 
 // A sink that takes one byte at a time and then fails.
@@ -244,30 +264,35 @@ impl Sink for Narrow {
     }
 }
 
+// Values of MOVSX and MOVSXD by the Intel SDM, and sums of words.
 #[test]
-fn words_fields_and_text(rt: HostRuntime) -> Result<(), Fail> {
-    let alloc = rt.alloc();
-
+fn words_of_64_bits(rt: HostRuntime) -> Result<(), Fail> {
     assert_eq!(rt; sum(u64::MAX, 2), 1);
     assert_eq!(rt; low32(0x1_2345_6789), 0x2345_6789);
-    // Values of MOVSX and MOVSXD by the Intel SDM.
     assert_eq!(rt; sign_extend(0x1_80, 1), 0xFFFF_FFFF_FFFF_FF80);
     assert_eq!(rt; sign_extend(0x7F, 1), 0x7F);
     assert_eq!(rt; sign_extend(0x8000, 2), 0xFFFF_FFFF_FFFF_8000);
     assert_eq!(rt; sign_extend(0x8000_0000, 4), 0xFFFF_FFFF_8000_0000);
     assert_eq!(rt; sign_extend(0x8000_0000, 8), 0x8000_0000);
+    Ok(())
+}
 
-    // The magic number of ELF and the machine EM_X86_64 as the gABI lays them out.
+// The magic number of ELF and the machine EM_X86_64 as the gABI lays them out.
+#[test]
+fn fields(rt: HostRuntime) -> Result<(), Fail> {
     let header = [0x7F, 0x45, 0x4C, 0x46, 2, 1, 1, 0, 62, 0];
     assert_eq!(rt; read_u32(&header, 0).ok(), Some(0x464C_457F));
     assert_eq!(rt; read_u16(&header, 8).ok(), Some(62));
     assert_eq!(rt; read_u64(&header, 0).ok(), Some(0x0001_0102_464C_457F));
     assert_eq!(rt; read_u64(&header, 3).err().map(|short| short.at), Some(3));
-    assert_eq!(rt;
-        read_u16(&header, u64::MAX).err().map(|short| short.at),
-        Some(u64::MAX)
-    );
+    let past = read_u16(&header, u64::MAX).err();
+    assert_eq!(rt; past.map(|short| short.at), Some(u64::MAX));
+    Ok(())
+}
 
+#[test]
+fn lists_and_text(rt: HostRuntime) -> Result<(), Fail> {
+    let alloc = rt.alloc();
     let mut list = List::new(alloc);
     for item in [3u32, 5, 8] {
         list.push(item)?;

@@ -1,9 +1,10 @@
-ghost use Rattle.std.specs.Prelude.{◌≡◌, ◌↔◌, ◌⊎◌, IsTrue, IfSome};
-ghost use Rattle.vw_app.specs.Walk.{IsNegative};
+ghost use Rattle.std.specs.Prelude.{◌≡◌, ◌≤◌, ◌↔◌, ◌⊎◌, length, IsTrue, IfSome, IfNone};
+ghost use Rattle.vw_app.specs.Walk.{NothingAt, IsNegative, StandsAlone};
 ghost use Rattle.vw_app.specs.Found.{Found};
 
 use crate::check::Check;
-use crate::spelling::{form_at, goes_on, memory_of};
+use crate::judged::{goes_on, is_judged, memory_of};
+use vw_decode::decode;
 use vw_insn::Insn;
 
 /// What the walk of a function finds.
@@ -13,7 +14,7 @@ pub enum Finding {
     Safe,
     /// The check fails at this offset from the function's first byte.
     Fails { at: usize, check: Check },
-    /// The walk comes to bytes that this version does not judge.
+    /// The walk comes to an instruction that this version does not judge.
     NotBuilt,
 }
 
@@ -23,10 +24,10 @@ pub fn walk(code: &[u8]) -> Finding
 {
     let mut at = 0;
     let mut lowest = None;
-    while at < code.len() {
-        let Some((insn, len)) = form_at(code, at) else {
+    while let Some((insn, len)) = instruction_at(code, at) {
+        if !is_judged(&insn) {
             return Finding::NotBuilt;
-        };
+        }
         lowest = lowest_with(lowest, at, &insn);
         if !goes_on(&insn) {
             return ended(lowest);
@@ -37,6 +38,16 @@ pub fn walk(code: &[u8]) -> Finding
         at,
         check: Check::Code,
     }
+}
+
+/// The instruction that begins at this point of the code, and how many bytes it has. None exactly where
+/// none begins there.
+fn instruction_at(code: &[u8], at: usize) -> Option<(Insn, usize)>
+    requires { at ≤ length code.now }
+    ensures found { IfSome result (λ insn. StandsAlone code.now at insn.0 insn.1) }
+    ensures none { IfNone result (NothingAt code.now at) }
+{
+    decode(&code[at..])
 }
 
 /// The lowest point with a negative displacement, once the instruction at a later point was looked at.

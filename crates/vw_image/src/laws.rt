@@ -1,6 +1,9 @@
 //! Facts about the definitions, each the contract of a function that does nothing.
 
-ghost use Rattle.std.specs.Prelude.{◌≡◌, ℕ, ◌+◌, ◌^◌, ◌≤◌, ◌<◌, List, true, Some, slice_index};
+ghost use Rattle.std.specs.Prelude.{◌≡◌, ℕ, ◌+◌, ◌^◌, ◌≤◌, ◌<◌, List, length, true, None, Some, slice_index};
+ghost use Rattle.vw_bits.specs.Headers.{segments_of};
+ghost use Rattle.vw_bits.specs.HeaderRules.{header_fault};
+ghost use Rattle.vw_image.specs.Bounds.{AreBounded};
 ghost use Rattle.vw_image.specs.Image.{Contents, IsImage, memory_byte, image_byte};
 ghost use Rattle.vw_image.specs.Words.{word_at, readable, bytes_at};
 ghost use Rattle.vw_image.specs.Stubs.{in_executable};
@@ -30,4 +33,9 @@ pub fn code_is_settled()
 pub fn file_bytes_are_memory()
     ensures { (image : Contents) → IsImage image → (a n : ℕ) (bytes : List ℕ) → bytes_at image a n ≡ Some bytes
         → (k : ℕ) → k < n → slice_index bytes k ≡ memory_byte image.bytes image.segments (a + k) }
+{}
+
+/// What the rules on headers give of the segments of a file.
+pub fn segments_are_bounded()
+    ensures { (bytes : List ℕ) → header_fault bytes ≡ None → AreBounded (length bytes) (segments_of bytes) }
 {}

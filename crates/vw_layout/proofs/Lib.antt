@@ -7,3 +7,4 @@ pub mod TableLemmas
 pub mod SectionLemmas
 pub mod ModuleLemmas
 pub mod SearchLemmas
+pub mod CodeLemmas

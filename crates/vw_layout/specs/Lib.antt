@@ -5,3 +5,4 @@ pub mod Functions
 pub mod Tables
 pub mod Spans
 pub mod Layout
+pub mod Laws

@@ -51,7 +51,9 @@ pub(crate) fn read_functions(
     ensures rules { OnOk result (AllHold (function_rules bytes.now segments.now (symbols_for bytes.now sections.now Role.Function))) }
     ensures fault { IfErr result (Names (lowest_broken 27 (function_rules bytes.now segments.now (symbols_for bytes.now sections.now Role.Function)))) }
 {
-    let symbols = read_symbols(alloc, bytes, sections, Role::Function).map_err(ModuleError::Memory)?;
+    let symbols = read_symbols(alloc, bytes, sections, Role::Function).map_err(
+        ModuleError::Memory,
+    )?;
     let firsts = check_symbols(alloc, bytes, segments, symbols.as_slice())?;
     let functions = declare(alloc, bytes, firsts.as_slice()).map_err(ModuleError::Memory)?;
     Ok(functions)
@@ -75,7 +77,10 @@ fn check_symbols(
     refuse(29, first_resized(&firsts, symbols))?;
     let functions = in_order(alloc, &firsts).map_err(ModuleError::Memory)?;
     refuse(30, first_overlap(functions.as_slice()))?;
-    refuse(31, first_excess(alloc, symbols).map_err(ModuleError::Memory)?)?;
+    refuse(
+        31,
+        first_excess(alloc, symbols).map_err(ModuleError::Memory)?,
+    )?;
     Ok(functions)
 }
 
@@ -167,10 +172,12 @@ fn in_order(
 ) -> Result<Vec<SymbolEntry>, OutOfMemory>
     ensures { IfOk result (λ functions. functions.items ≡ filter_map (get nat_cmp firsts.now) (keys firsts.now)) }
 {
-    Ok(firsts
-        .keys()
-        .filter_map(|address| firsts.get(address).copied())
-        .collect(alloc)?)
+    Ok(
+        firsts
+            .keys()
+            .filter_map(|address| firsts.get(address).copied())
+            .collect(alloc)?,
+    )
 }
 
 // Rule 30: the first function, by ascending address, that shares a byte with one before it. While none does,

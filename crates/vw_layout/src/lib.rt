@@ -7,6 +7,7 @@
 mod faults;
 mod fields;
 mod functions;
+mod laws;
 mod layout;
 mod places;
 mod symbols;
@@ -14,6 +15,7 @@ mod tables;
 
 pub use faults::ModuleError;
 pub use functions::Function;
+pub use laws::functions_are_code;
 pub use layout::Module;
 pub use tables::{TableEntry, TableInfo};
 

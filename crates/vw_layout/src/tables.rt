@@ -419,11 +419,7 @@ pub(crate) fn position_of(functions: &[Function], address: u64) -> Option<usize>
 }
 
 // The tables with their entries.
-fn tables_in(
-    alloc: Global,
-    image: &Image,
-    spans: &[Span],
-) -> Result<List<TableInfo>, OutOfMemory>
+fn tables_in(alloc: Global, image: &Image, spans: &[Span]) -> Result<List<TableInfo>, OutOfMemory>
     requires { AreLow spans.now }
     ensures { IfOk result (λ tables. tables ≡ map (table_in image.now) spans.now) }
 {

@@ -2,7 +2,6 @@ use Rattle.std.proofs.Common.{◌≡◌, ℕ, ◌+◌, ◌-◌, ◌/◌, ◌<◌
 use Rattle.vw_layout.proofs.SearchLemmas.{position_found, position_missed, lower_half, upper_half}
 use Rattle.vw_layout.proofs.tables.position_of.Goals as goal
 
-
 pub returns-then-entry-address : goal.returns-then-entry-address
 returns-then-entry-address c =
     let middle = c.loop-low.low + (c.loop-low.high - c.loop-low.low) / 2 in

@@ -1,5 +1,0 @@
-use Rattle.vw_app.proofs.Pieces.{joined_four}
-use Rattle.vw_app.proofs.one_function.put_segment_header.Goals as goal
-
-pub returns : goal.returns
-returns c = joined_four c.args.out.now c.push.new.self c.put_u64.new.out c.put_u64-2.new.out c.push-2.new.self _ _ _ _ c.in_ok-push.ensures.ok c.in_ok-put_u64.ensures c.in_ok-put_u64-2.ensures c.in_ok-push-2.ensures.ok
