@@ -15,10 +15,13 @@ some_opcode Three opcode = lit< tt
 
 some_bytes : (p : Parts) → 0 < length (bytes_of p)
 some_bytes p =
-    omega (arith, some_opcode p.map p.opcode,
-    length-append (prefix_bytes p.prefix) (rex_bytes p.rex ++ (opcode_bytes p.map p.opcode ++ (modrm_bytes p.modrm ++ p.imm))),
-    length-append (rex_bytes p.rex) (opcode_bytes p.map p.opcode ++ (modrm_bytes p.modrm ++ p.imm)),
-    length-append (opcode_bytes p.map p.opcode) (modrm_bytes p.modrm ++ p.imm))
+    omega (
+      arith,
+      some_opcode p.map p.opcode,
+      length-append (prefix_bytes p.prefix) (rex_bytes p.rex ++ (opcode_bytes p.map p.opcode ++ (modrm_bytes p.modrm ++ p.imm))),
+      length-append (rex_bytes p.rex) (opcode_bytes p.map p.opcode ++ (modrm_bytes p.modrm ++ p.imm)),
+      length-append (opcode_bytes p.map p.opcode) (modrm_bytes p.modrm ++ p.imm),
+    )
 
 -- no instruction is spelled by no bytes
 spelled_some : {i : Insn} → Spells [] i → ⊥

@@ -18,12 +18,7 @@ pub fn safe_text(alloc: Global, functions: usize) -> Result<Text, OutOfMemory>
 }
 
 /// The line for a check that fails at an offset of the function of this name.
-pub fn unsafe_text(
-    alloc: Global,
-    name: &[u8],
-    at: usize,
-    check: Check,
-) -> Result<Text, OutOfMemory>
+pub fn unsafe_text(alloc: Global, name: &[u8], at: usize, check: Check) -> Result<Text, OutOfMemory>
     ensures { IfOk result (λ text. text ≡ unsafe_line name.now at (check_number check)) }
 {
     let mut text = Text::new(alloc);

@@ -7,11 +7,11 @@ ghost use Rattle.vw_app.specs.Answer.{Answered, Judged, AreTold, Asks, Reply, Re
 ghost use Rattle.vw_app.specs.Sandboxed.{IsSandboxed, IsSandboxedFile};
 
 use crate::info::info_text;
-use crate::lines::{malformed_text, safe_text, text_of, unsafe_text};
-use crate::status::Status;
 use crate::laws::safe_code_is_sandboxed;
-use crate::verdict::{Failure, Verdict, judge};
+use crate::lines::{malformed_text, safe_text, text_of, unsafe_text};
 use crate::request::{Command, request_of};
+use crate::status::Status;
+use crate::verdict::{Failure, Verdict, judge};
 use std::alloc::Global;
 use vw_bits::{List, OutOfMemory, Text};
 use vw_layout::{Module, ModuleError};
@@ -105,7 +105,13 @@ fn verify(alloc: Global, loaded: &Module) -> Result<(Status, Text), OutOfMemory>
     let functions = loaded.functions.as_slice();
     match judge(loaded) {
         Verdict::Safe => Ok((Status::SAFE, safe_text(alloc, functions.len())?)),
-        Verdict::Unsafe(Failure { function, at, check }) => {
+        Verdict::Unsafe(
+            Failure {
+                function,
+                at,
+                check,
+            },
+        ) => {
             let name = functions[function].name.as_slice();
             Ok((Status::UNSAFE, unsafe_text(alloc, name, at, check)?))
         }

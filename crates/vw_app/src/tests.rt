@@ -1,7 +1,7 @@
 ghost use Rattle.std.specs.Prelude.{◌≡◌, ◌^◌, ◌≤◌, ◌<◌, Some, length, IfOk};
 
-use crate::smallest::smallest_module;
 use crate::program::run;
+use crate::smallest::smallest_module;
 use crate::status::Status;
 use bitflags::Flags;
 use std::alloc::Global;

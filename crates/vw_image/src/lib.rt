@@ -10,7 +10,9 @@ mod stub;
 mod word;
 
 pub use image::Image;
-pub use laws::{code_is_settled, segments_are_bounded, file_bytes_are_memory, readable_is_settled, words_spell};
+pub use laws::{
+    code_is_settled, file_bytes_are_memory, readable_is_settled, segments_are_bounded, words_spell,
+};
 pub use stub::{Stub, StubTo};
 pub use word::Word;
 

@@ -24,9 +24,9 @@ loop-number-preserved c =
     let is = numbered_at file c.as_slice-functions.result.now c.loop-number.number f same c.loop-number-test.true (sym c.index-functions-number.is) in
     elim c.match-walk.branch [
       | in-Fails w ↦ subst (λ (n : Option Failure). Passed file (c.loop-number.number + 1) n) (sym w.first-is)
-        (passed_fails file c.loop-number.number f is c.loop-number.first w.first_of-first.result w.in-Fails.at w.in-Fails.check c.loop-number.invariant (rw c.code_of.ensures at w.in-Fails.ensures) w.first_of-first.ensures.kept w.first_of-first.ensures.new)
+          (passed_fails file c.loop-number.number f is c.loop-number.first w.first_of-first.result w.in-Fails.at w.in-Fails.check c.loop-number.invariant (rw c.code_of.ensures at w.in-Fails.ensures) w.first_of-first.ensures.kept w.first_of-first.ensures.new)
       | in-Safe w ↦ subst (λ (n : Option Failure). Passed file (c.loop-number.number + 1) n) (sym w.first-is)
-        (passed_safe file c.loop-number.number f is c.loop-number.first c.loop-number.invariant (rw c.code_of.ensures at w.in-Safe.ensures))
+          (passed_safe file c.loop-number.number f is c.loop-number.first c.loop-number.invariant (rw c.code_of.ensures at w.in-Safe.ensures))
     ]
 
 pub returns-in-None : goal.returns-in-None
