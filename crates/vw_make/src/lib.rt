@@ -9,6 +9,7 @@ mod plan;
 mod records;
 mod relocations;
 mod sizes;
+mod strings;
 mod symbols;
 mod tables;
 mod text;

@@ -1,10 +1,8 @@
 ghost use Rattle.std.specs.Prelude.{◌≡◌, ◌+◌, ◌<◌, ◌^◌, ◌++◌, OnOk, IfOk};
 ghost use Rattle.vw_make.specs.Layout.{strings_size, function_names};
 ghost use Rattle.vw_make.specs.Plan.{IsPlan};
-ghost use Rattle.vw_make.specs.Symbols.{string, strings, string_table, import_symbols, dynamic_symbols, function_symbols, symbols, symbol_names};
+ghost use Rattle.vw_make.specs.Symbols.{import_symbols, dynamic_symbols, function_symbols, tables_symbol, symbols};
 
-use crate::buffer::put;
-use crate::parts::Func;
 use crate::plan::Plan;
 use crate::records::{SymbolEntry, put_null_symbol, put_symbol};
 use vw_bits::{OutOfMemory, Text};
@@ -48,32 +46,6 @@ fn put_import_symbols(out: &mut Vec<u8>, imports: &[Text]) -> Result<(), OutOfMe
     Ok(())
 }
 
-/// Appends the string table of the dynamic symbols.
-#[tactic(auto, unfolding(crate::specs::Symbols::string_table))]
-pub fn put_dynamic_strings(out: &mut Vec<u8>, imports: &[Text]) -> Result<(), OutOfMemory>
-    ensures { OnOk result (out.new.items ≡ out.old.items ++ string_table imports.now) }
-{
-    put(out, &[0])?;
-    put_import_names(out, imports)
-}
-
-fn put_import_names(out: &mut Vec<u8>, imports: &[Text]) -> Result<(), OutOfMemory>
-    ensures { OnOk result (out.new.items ≡ out.old.items ++ strings imports.now) }
-{
-    for import in imports {
-        put_string(out, import.as_slice())?;
-    }
-    Ok(())
-}
-
-// Appends a name and its zero byte.
-fn put_string(out: &mut Vec<u8>, name: &[u8]) -> Result<(), OutOfMemory>
-    ensures { OnOk result (out.new.items ≡ out.old.items ++ string name.now) }
-{
-    put(out, name)?;
-    put(out, &[0])
-}
-
 /// Appends the symbols: a null one, the functions, and `lucet_tables` where there is a table.
 pub fn put_symbols(out: &mut Vec<u8>, plan: &Plan) -> Result<(), OutOfMemory>
     requires { IsPlan plan.now }
@@ -84,6 +56,16 @@ pub fn put_symbols(out: &mut Vec<u8>, plan: &Plan) -> Result<(), OutOfMemory>
     if plan.parts.tables.as_slice().is_empty() {
         return Ok(());
     }
+    put_tables_symbol(out, plan, name)?;
+    Ok(())
+}
+
+// Appends the symbol of `lucet_tables`, whose name begins at `name` in the string table.
+fn put_tables_symbol(out: &mut Vec<u8>, plan: &Plan, name: u32) -> Result<(), OutOfMemory>
+    requires plan { IsPlan plan.now }
+    requires name { name ≡ strings_size (function_names plan.now.parts.now.functions) }
+    ensures { OnOk result (out.new.items ≡ out.old.items ++ tables_symbol plan.now.parts.now plan.now.layout) }
+{
     let entry = SymbolEntry {
         name,
         info: GLOBAL_OBJECT,
@@ -117,28 +99,4 @@ fn put_function_symbols(out: &mut Vec<u8>, plan: &Plan) -> Result<u32, OutOfMemo
         name += func.name.as_slice().len() as u32 + 1;
     }
     Ok(name)
-}
-
-/// Appends the string table of the symbols.
-pub fn put_symbol_strings(out: &mut Vec<u8>, plan: &Plan) -> Result<(), OutOfMemory>
-    ensures { OnOk result (out.new.items
-        ≡ out.old.items ++ string_table (symbol_names plan.now.parts.now)) }
-{
-    put(out, &[0])?;
-    put_function_names(out, plan.parts.functions.as_slice())?;
-    let tables = plan.parts.tables.as_slice();
-    if tables.is_empty() {
-        return Ok(());
-    }
-    put_string(out, b"lucet_tables")?;
-    Ok(())
-}
-
-fn put_function_names(out: &mut Vec<u8>, functions: &[Func]) -> Result<(), OutOfMemory>
-    ensures { OnOk result (out.new.items ≡ out.old.items ++ strings (function_names functions.now)) }
-{
-    for func in functions {
-        put_string(out, func.name.as_slice())?;
-    }
-    Ok(())
 }

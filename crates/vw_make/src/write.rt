@@ -13,7 +13,8 @@ use crate::records::{
 };
 use crate::relocations::put_relocations;
 use crate::sizes::Sizes;
-use crate::symbols::{put_dynamic_strings, put_dynamic_symbols, put_symbol_strings, put_symbols};
+use crate::strings::{put_dynamic_strings, put_symbol_strings};
+use crate::symbols::{put_dynamic_symbols, put_symbols};
 use crate::tables::{
     DYNAMIC_SIZE, put_content, put_dynamic_section, put_pairs, put_slots, put_tables,
 };

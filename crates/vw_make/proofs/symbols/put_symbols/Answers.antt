@@ -1,13 +1,7 @@
-use Rattle.std.proofs.Common.{◌≡◌, ◌∙◌, true, false, not, ℕ, List, Option, length, ap, sym, eqb, arith}
+use Rattle.std.proofs.Common.{◌≡◌, ◌∙◌, true, false, not, ℕ, List, Option, length, ap, sym, eqb}
 use Rattle.vw_make.specs.Layout.{has_table}
-use Rattle.vw_make.proofs.Places.{plan_facts}
-use Rattle.vw_make.proofs.Steps.{symbols_with, tables_piece, symbols_without}
+use Rattle.vw_make.proofs.Steps.{symbols_with, symbols_without}
 use Rattle.vw_make.proofs.symbols.put_symbols.Goals as goal
-
-pub overflow_mul-entry : goal.overflow_mul-entry
-overflow_mul-entry c =
-    let facts = plan_facts c.requires in
-    omega (arith, facts.ordered.tables, facts.low.tables)
 
 pub returns-then-is_empty : goal.returns-then-is_empty
 returns-then-is_empty c =
@@ -17,7 +11,4 @@ returns-then-is_empty c =
 pub returns : goal.returns
 returns c =
     let some : has_table c.args.plan.now.parts.now ≡ true = sym (ap not (c.if-is_empty.ensures ∙ ap (λ (tables : List (List (ℕ × Option ℕ))). eqb (length tables) 0) c.as_slice.ensures)) in
-    let facts = plan_facts c.requires in
-    rw (c.in_ok-put_symbol.ensures, c.in_ok-name.ensures.bytes, c.in_ok-put_null_symbol.ensures)
-    (tables_piece c.args.plan.now.parts.now c.args.plan.now.layout c.in_ok-name.name c.args.plan.now.sizes.tables _ c.in_ok-name.ensures.next facts.sizes.tables
-    ∙ symbols_with c.args.plan.now.parts.now c.args.plan.now.layout c.args.out.now.items some)
+    rw (c.in_ok-put_tables_symbol.ensures, c.in_ok-name.ensures.bytes, c.in_ok-put_null_symbol.ensures) (symbols_with c.args.plan.now.parts.now c.args.plan.now.layout c.args.out.now.items some)

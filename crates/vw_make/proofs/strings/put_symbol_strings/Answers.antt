@@ -1,7 +1,7 @@
 use Rattle.std.proofs.Common.{◌≡◌, ◌∙◌, true, false, not, ℕ, List, Option, length, ap, sym, eqb}
 use Rattle.vw_make.specs.Layout.{has_table}
 use Rattle.vw_make.proofs.Steps.{names_with, names_without}
-use Rattle.vw_make.proofs.symbols.put_symbol_strings.Goals as goal
+use Rattle.vw_make.proofs.strings.put_symbol_strings.Goals as goal
 
 pub returns-then-is_empty : goal.returns-then-is_empty
 returns-then-is_empty c =
