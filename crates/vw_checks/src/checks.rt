@@ -38,9 +38,8 @@ fn code_of<'a>(site: &Site<'a>) -> &'a [u8]
     ensures is { result.now ≡ code_at site.now.image.now site.now.entry site.now.size }
     ensures short { length result.now < 2 ^ 32 }
 {
-    site.image
-        .bytes_at(site.entry, site.size as u64)
-        .unwrap_or(&[])
+    let size = site.size;
+    site.image.bytes_at(site.entry, size as u64).unwrap_or(&[])
 }
 
 /// The lowest number of the checks that fail at a point of the code; `None` exactly where none fails.
