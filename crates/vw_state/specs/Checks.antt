@@ -1,17 +1,17 @@
 -- The checks of the graph: that code is at a point, and that direct jumps and branches stay in the function.
-use Rattle.std.specs.Prelude.{◌≡◌, ◌<◌, ◌≤◌, ℕ, ◌+◌, ℤ, List, length, Some}
+use Rattle.std.specs.Prelude.{◌≡◌, ◌≤◌, ℕ, ◌+◌, List, length, None, Some}
 use Rattle.vw_insn.specs.declared.instruction.Insn.{Insn}
 use Rattle.vw_insn.specs.declared.instruction.Insn.TheVariants as insn
 use Rattle.vw_state.specs.declared.state.State.{State}
 use Rattle.vw_state.specs.declared.tables.PointState.{PointState}
 use Rattle.vw_state.specs.Code.{BeginsAt, NothingAt}
-use Rattle.vw_state.specs.Post.{target, IsInside}
+use Rattle.vw_state.specs.Post.{target, inside}
 use Rattle.vw_state.specs.Tables.{state_of}
 
 -- a direct jump or branch, with `next` behind it, goes out of a function of `size` bytes
 abbrev pub GoesOut : ℕ → ℕ → Insn → Type 0
-GoesOut size next (insn.Jump rel) = IsInside size (target next rel) → ⊥
-GoesOut size next (insn.Jcc cond rel) = IsInside size (target next rel) → ⊥
+GoesOut size next (insn.Jump rel) = inside size (target next rel) ≡ None
+GoesOut size next (insn.Jcc cond rel) = inside size (target next rel) ≡ None
 GoesOut size next _ = ⊥
 
 -- Check 1, code: nothing decodes in the bytes from the point to the function's end. So it is at a point above

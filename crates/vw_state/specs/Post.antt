@@ -1,6 +1,6 @@
 -- The edges that leave a point of a function: where control can go from the instruction there, each with
 -- the state that it carries (SDM volume 2, "JMP", "Jcc", "RET", "UD2"; volume 1, 6.4 and 7.3.8).
-use Rattle.std.specs.Prelude.{ℕ, ◌+◌, ◌-◌, nat_lt, if◌then◌else◌, ℤ, pos, negsuc, ◌+ℤ◌, ◌<ℤ◌, ◌≤ℤ◌, List, [], ◌∷◌, ◌++◌, length, drop, Option, Some, None}
+use Rattle.std.specs.Prelude.{ℕ, ◌+◌, ◌-◌, nat_lt, if◌then◌else◌, ℤ, pos, negsuc, ◌+ℤ◌, List, [], ◌∷◌, ◌++◌, length, drop, Option, Some, None}
 use Rattle.vw_insn.specs.declared.instruction.Insn.{Insn}
 use Rattle.vw_insn.specs.declared.instruction.Insn.TheVariants as insn
 use Rattle.vw_rows.specs.Meaning.{insn_of}
@@ -11,14 +11,15 @@ use Rattle.vw_state.specs.Code.{BeginsAt, NothingAt}
 abbrev pub target : ℕ → ℤ → ℤ
 target next rel = pos next +ℤ rel
 
--- the offset of one of `size` bytes
-abbrev pub IsInside : ℕ → ℤ → Type 0
-IsInside size to = (pos 0 ≤ℤ to) × (to <ℤ pos size)
+-- the point of a target that is the offset of one of `size` bytes; None: it is outside
+abbrev pub inside : ℕ → ℤ → Option ℕ
+inside size (pos to) = if nat_lt to size then Some to else None
+inside size (negsuc _) = None
 
--- the edge to a direct target; there is none to one outside
-abbrev pub direct : {S : Type 0} → ℕ → ℤ → S → List (ℕ × S)
-direct size (pos to) state = if nat_lt to size then (to, state) ∷ [] else []
-direct size (negsuc _) state = []
+-- the edge to a point; there is none to a target outside
+abbrev pub edge_to : {S : Type 0} → Option ℕ → S → List (ℕ × S)
+edge_to None state = []
+edge_to (Some point) state = (point, state) ∷ []
 
 -- The edges of an instruction of a function of `size` bytes, with `next` behind it: to the next instruction
 -- from NOP and MOV, also where this is the function's end; to the target of a jump; to the target of a branch
@@ -26,8 +27,8 @@ direct size (negsuc _) state = []
 abbrev pub edges_of : {S : Type 0} → ℕ → ℕ → S → Insn → List (ℕ × S)
 edges_of size next state insn.Nop = (next, state) ∷ []
 edges_of size next state (insn.Mov w dst src) = (next, state) ∷ []
-edges_of size next state (insn.Jump rel) = direct size (target next rel) state
-edges_of size next state (insn.Jcc cond rel) = direct size (target next rel) state ++ (next, state) ∷ []
+edges_of size next state (insn.Jump rel) = edge_to (inside size (target next rel)) state
+edges_of size next state (insn.Jcc cond rel) = edge_to (inside size (target next rel)) state ++ (next, state) ∷ []
 edges_of size next state _ = []
 
 -- the edges that leave a point with a state

@@ -1,3 +1,7 @@
+ghost use Rattle.std.specs.Prelude.{◌≡◌, ◌≤◌, length};
+ghost use Rattle.vw_rows.specs.Numbers.{IsBytes};
+ghost use Rattle.vw_state.specs.Code.{code_at};
+
 use vw_image::Image;
 
 /// A function of an image.
@@ -9,4 +13,18 @@ pub struct Site<'a> {
     pub entry: u64,
     /// Its size in bytes.
     pub size: u32,
+}
+
+impl<'a> Site<'a> {
+    /// The bytes of the function in the file. There are none where these are not in the file part of one
+    /// segment. Takes no memory.
+    pub fn code(&self) -> &'a [u8]
+        ensures code { result.now ≡ code_at self.now.image.now self.now.entry self.now.size }
+        ensures size { length result.now ≤ self.now.size }
+        ensures bytes { IsBytes result.now }
+    {
+        self.image
+            .bytes_at(self.entry, self.size as u64)
+            .unwrap_or(&[])
+    }
 }
