@@ -1,2 +1,3 @@
 pub mod Begins
 mod Spellings
+pub mod Sites

@@ -23,8 +23,18 @@ impl<'a> Site<'a> {
         ensures size { length result.now ≤ self.now.size }
         ensures bytes { IsBytes result.now }
     {
-        self.image
-            .bytes_at(self.entry, self.size as u64)
-            .unwrap_or(&[])
+        as_bytes(
+            self.image
+                .bytes_at(self.entry, self.size as u64)
+                .unwrap_or(&[]),
+        )
     }
+}
+
+// The same bytes, each below 256.
+fn as_bytes(bytes: &[u8]) -> &[u8]
+    ensures same { result.now ≡ bytes.now }
+    ensures bytes { IsBytes result.now }
+{
+    bytes
 }
