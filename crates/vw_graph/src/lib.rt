@@ -1,0 +1,14 @@
+//! The rounds over a function: its least table, and where it leaves the code.
+#![tactic(auto)]
+
+mod ends;
+mod equations;
+mod faults;
+mod gather;
+mod round;
+
+pub use ends::Rounds;
+pub use round::rounds;
+
+#[cfg(test)]
+mod tests;
