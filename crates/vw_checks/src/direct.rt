@@ -1,4 +1,4 @@
-ghost use Rattle.std.specs.Prelude.{◌≡◌, ◌<◌, ◌^◌, ◌↔◌, None, IsTrue};
+ghost use Rattle.std.specs.Prelude.{◌≡◌, ◌↔◌, None, IsTrue};
 ghost use Rattle.vw_state.specs.Post.{target, inside};
 ghost use Rattle.vw_state.specs.Checks.{GoesOut};
 
@@ -6,9 +6,7 @@ use vw_insn::Insn;
 
 /// Whether the instruction is a direct jump or branch out of a function of this size. The next one stands
 /// at `next`.
-pub(crate) fn goes_out(insn: &Insn, next: usize, size: usize) -> bool
-    requires next { next < 2 ^ 32 }
-    requires size { size < 2 ^ 32 }
+pub(crate) fn goes_out(insn: &Insn, next: u32, size: u32) -> bool
     ensures { IsTrue result ↔ GoesOut size next insn.now }
 {
     match insn {
@@ -18,9 +16,7 @@ pub(crate) fn goes_out(insn: &Insn, next: usize, size: usize) -> bool
 }
 
 /// Whether a direct target is none of the bytes of a function of this size.
-fn is_outside(next: usize, rel: i32, size: usize) -> bool
-    requires next { next < 2 ^ 32 }
-    requires size { size < 2 ^ 32 }
+fn is_outside(next: u32, rel: i32, size: u32) -> bool
     ensures { IsTrue result ↔ (inside size (target next rel) ≡ None) }
 {
     let to = next as i64 + rel as i64;
