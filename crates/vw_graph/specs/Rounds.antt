@@ -1,7 +1,6 @@
 -- What the rounds over a function end with. Only direct edges are known yet, so there is one round.
 use Rattle.std.specs.Prelude.{◌≡◌, ℕ, List}
 use Rattle.vw_image.specs.Image.{Contents}
-use Rattle.vw_layout.specs.declared.functions.Function.{Function}
 use Rattle.vw_state.specs.declared.tables.FunctionTable.{FunctionTable}
 use Rattle.vw_state.specs.Code.{code_at}
 use Rattle.vw_state.specs.Solution.{IsLeast}
@@ -20,8 +19,8 @@ abbrev pub EndsAs : List ℕ → Rounds → Type 0
 EndsAs code (Stable table) = PassesGraph code table.states
 EndsAs code (Stopped table at check) = StopsAt code table.states at check
 
--- the rounds over a function of an image
-pub record IsRounds (image : Contents) (f : Function) (rounds : Rounds) : Type 0 where
-  pub entry : (last_table rounds).entry ≡ f.entry
-  pub least : IsLeast (code_at image f.entry f.size) (last_table rounds).states
-  pub ends : EndsAs (code_at image f.entry f.size) rounds
+-- the rounds over the function of an image that begins at an entry and has `size` bytes
+pub record IsRounds (image : Contents) (entry size : ℕ) (rounds : Rounds) : Type 0 where
+  pub entry_is : (last_table rounds).entry ≡ entry
+  pub least : IsLeast (code_at image entry size) (last_table rounds).states
+  pub ends : EndsAs (code_at image entry size) rounds

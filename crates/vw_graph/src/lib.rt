@@ -2,10 +2,10 @@
 #![tactic(auto)]
 
 mod ends;
-mod equations;
 mod faults;
-mod gather;
+mod graph;
 mod round;
+mod solved;
 
 pub use ends::Rounds;
 pub use round::rounds;

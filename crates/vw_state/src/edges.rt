@@ -47,9 +47,9 @@ pub fn instruction_at(code: &[u8], at: u32) -> Option<(Insn, u32)>
     Some((insn, len as u32))
 }
 
-/// Where a direct jump or branch goes that has `next` behind it, in a function of `size` bytes. None where
-/// this is outside.
-fn inside(size: u32, next: u32, rel: i32) -> Option<u32>
+/// Where a direct jump or branch goes that has `next` behind it, in a function of `size` bytes: `rel` counts
+/// from there. None exactly where that is outside, below 0 or from `size` on. Takes no memory.
+pub fn direct_target(size: u32, next: u32, rel: i32) -> Option<u32>
     ensures { result ≡ inside size (target next rel) }
 {
     let to = next as i64 + rel as i64;
@@ -73,8 +73,8 @@ fn append_edges(
 {
     match insn {
         Insn::Nop | Insn::Mov { .. } => append(Some(next), state, out),
-        Insn::Jump { rel } => append(inside(size, next, *rel), state, out),
-        Insn::Jcc { rel, .. } => append_branch(inside(size, next, *rel), next, state, out),
+        Insn::Jump { rel } => append(direct_target(size, next, *rel), state, out),
+        Insn::Jcc { rel, .. } => append_branch(direct_target(size, next, *rel), next, state, out),
         _ => Ok(()),
     }
 }
