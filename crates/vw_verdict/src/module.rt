@@ -6,7 +6,8 @@ use crate::function::{Finding, judge_function};
 use std::alloc::Global;
 use std::sync::ledger::Ledger;
 use vw_bits::{List, OutOfMemory};
-use vw_layout::Module;
+use vw_checks::lower_states_pass;
+use vw_layout::{Module, functions_are_code};
 use vw_solver::Steps;
 use vw_state::{Tables, Verdict};
 
@@ -26,6 +27,8 @@ pub fn judge<L: Ledger>(
     ensures ticks { steps.new ≤ steps.old + sum_by (λ f. f.size + 1) loaded.now.functions }
     ensures counts { steps.old ≤ steps.new }
 {
+    functions_are_code();
+    lower_states_pass();
     let functions = loaded.functions.as_slice();
     let mut tables = List::new(alloc);
     let mut number = 0;
