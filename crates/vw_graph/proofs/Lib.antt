@@ -1,1 +1,4 @@
-
+mod Targets
+mod Gathered
+mod Spread
+mod Least
