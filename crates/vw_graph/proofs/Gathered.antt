@@ -24,12 +24,15 @@ gather_snoc from (Some s ∷ xs) (suc p) =
     ap (λ (rest : List PointState). record { at = from; state = s } ∷ rest)
       (gather_snoc (suc from) xs p ∙ ap (λ (h : List PointState). gather (suc from) (take p xs) ++ h) (held_at (suc from + p) (from + suc p) (state_at xs p) (omega arith)))
 
+one_more : (p : ℕ) → suc p ≡ p + 1
+one_more p = omega arith
+
 pub gather_more : (xs : List (Option State)) (p : ℕ) (old new : List PointState) (state : Option State) → old ≡ gather 0 (take p xs) → state ≡ state_at xs p → new ≡ old ++ held p state → new ≡ gather 0 (take (p + 1) xs)
 gather_more xs p old new state e at is =
     is ∙ (ap (λ (t : List PointState). t ++ held p state) e
     ∙ (ap (λ (o : Option State). gather 0 (take p xs) ++ held p o) at
     ∙ (ap (λ (h : List PointState). gather 0 (take p xs) ++ h) (held_at p (0 + p) (state_at xs p) (omega arith))
-    ∙ (sym (gather_snoc 0 xs p) ∙ ap (λ (n : ℕ). gather 0 (take n xs)) (omega arith)))))
+    ∙ (sym (gather_snoc 0 xs p) ∙ ap (λ (n : ℕ). gather 0 (take n xs)) (one_more p)))))
 
 -- ---- the states of its points
 

@@ -2,3 +2,5 @@ mod Targets
 mod Gathered
 mod Spread
 mod Least
+mod Ended
+mod Declared
