@@ -1,1 +1,6 @@
-
+mod Targets
+mod Gathered
+mod Spread
+mod Least
+mod Ended
+mod Declared

@@ -11,6 +11,11 @@ gather from [] = []
 gather from (None ∷ rest) = gather (suc from) rest
 gather from (Some s ∷ rest) = record { at = from; state = s } ∷ gather (suc from) rest
 
+-- a point with its state, where it has one
+abbrev pub held : ℕ → Option State → List PointState
+held point None = []
+held point (Some s) = record { at = point; state = s } ∷ []
+
 -- no point that has a state fails a check of the graph
 abbrev pub NoneFails : List ℕ → List (Option State) → Type 0
 NoneFails code table = (at : ℕ) (state : State) → state_at table at ≡ Some state → (check : ℕ) → FailsGraph code at check → ⊥

@@ -1,4 +1,4 @@
-ghost use Rattle.std.specs.Prelude.{◌≡◌, ℕ, ◌↔◌, length, IsTrue, IfSome, IfNone};
+ghost use Rattle.std.specs.Prelude.{◌≡◌, ℕ, ◌↔◌, ◌<◌, ◌^◌, length, IsTrue, IfSome, IfNone};
 ghost use Rattle.vw_state.specs.Checks.{GoesOut, FailsGraph};
 ghost use Rattle.vw_graph.specs.Solved.{NoneFails, FailsFirst};
 
@@ -8,7 +8,8 @@ use vw_state::{State, direct_target, instruction_at};
 
 /// The lowest point that has a state and fails a check of the graph, with its lowest check.
 pub(crate) fn first_fault(code: &[u8], solved: &Solved<State>, points: u32) -> Option<(u32, u8)>
-    requires { length solved.now ≡ points }
+    requires points { length solved.now ≡ points }
+    requires short { length code.now < 2 ^ 32 }
     ensures some { IfSome result (λ fault. FailsFirst code.now solved.now fault.0 fault.1) }
     ensures none { IfNone result (NoneFails code.now solved.now) }
 {
@@ -25,6 +26,7 @@ pub(crate) fn first_fault(code: &[u8], solved: &Solved<State>, points: u32) -> O
 /// The lowest check of the graph that fails at a point: 1, where no instruction begins there, or 2, where a
 /// direct jump or branch leaves the function.
 fn graph_fault(code: &[u8], at: u32) -> Option<u8>
+    requires { length code.now < 2 ^ 32 }
     ensures some { IfSome result (λ check. FailsGraph code.now at check) }
     ensures none { IfNone result ((check : ℕ) → FailsGraph code.now at check → ⊥) }
 {

@@ -2,6 +2,7 @@ ghost use Rattle.std.specs.Prelude.{◌≡◌, ◌+◌, length};
 ghost use Rattle.vw_state.specs.Code.{code_at};
 ghost use Rattle.vw_state.specs.Post.{edges_at};
 ghost use Rattle.std.proofs.Common.{rules};
+ghost use Rattle.vw_graph.specs.Monotone.{edges_monotone};
 
 use std::alloc::Global;
 use std::sync::ledger::Ledger;
@@ -21,13 +22,13 @@ pub(crate) struct Graph<'a> {
 
 impl<'a> Graph<'a> {
     /// The equations of a site, whose points are one more than it has bytes.
-    pub(crate) fn of_site(site: Site<'a>, points: u32) -> Graph<'a>
-        requires { points ≡ length (code_at site.image.now site.entry site.size) + 1 }
+    pub(crate) fn of_site(site: &Site<'a>, points: u32) -> Graph<'a>
+        requires { points ≡ length (code_at site.now.image.now site.now.entry site.now.size) + 1 }
         ensures points { result.points ≡ points }
-        ensures site { result.site ≡ site }
+        ensures site { result.site ≡ site.now }
     {
         Graph {
-            site,
+            site: *site,
             points,
             bounds: Bounds {},
         }
@@ -71,7 +72,7 @@ impl<'a> Equations for Graph<'a> {
 
     ghost valid_edges = { Prim.search rules };
 
-    ghost monotone = { Prim.search rules };
+    ghost monotone = { λ graph at x y inside valid_x valid_y under. edges_monotone (code_at graph.site.image.now graph.site.entry graph.site.size) at x y };
 
     ghost weighs = { Prim.search rules };
 }

@@ -38,18 +38,18 @@ pub fn rounds<L: Ledger>(
         entry: declared.entry,
         size: declared.size,
     };
-    round(alloc, site, steps)
+    round(alloc, &site, steps)
 }
 
 /// One round, over the direct edges of a site.
 fn round<L: Ledger>(
     alloc: Global,
-    site: Site,
+    site: &Site,
     steps: &mut Steps<L>,
 ) -> Result<Rounds, OutOfMemory>
-    requires { site.size ≤ 1048576 }
-    ensures rounds { IfOk result (IsRounds site.image.now site.entry site.size) }
-    ensures ticks { steps.new ≤ steps.old + (site.size + 1) }
+    requires { site.now.size ≤ 1048576 }
+    ensures rounds { IfOk result (IsRounds site.now.image.now site.now.entry site.now.size) }
+    ensures ticks { steps.new ≤ steps.old + (site.now.size + 1) }
     ensures counts { steps.old ≤ steps.new }
 {
     let code = site.code();

@@ -1,5 +1,5 @@
-ghost use Rattle.std.specs.Prelude.{◌≡◌, length, IfOk};
-ghost use Rattle.vw_graph.specs.Solved.{gather};
+ghost use Rattle.std.specs.Prelude.{◌≡◌, ◌++◌, length, IfOk, OnOk, option_copied};
+ghost use Rattle.vw_graph.specs.Solved.{gather, held};
 
 use std::alloc::Global;
 use vw_bits::{List, OutOfMemory};
@@ -18,12 +18,24 @@ pub(crate) fn point_states(
 {
     let mut states = List::new(alloc);
     for point in 0..points {
-        if let Some(state) = solved.at(point) {
-            states.push(PointState {
-                at: point,
-                state: state.copy()?,
-            })?;
-        }
+        append_point(point, solved.at(point), &mut states)?;
     }
     Ok(states)
+}
+
+/// Appends a point with its state, where it has one.
+fn append_point(
+    point: u32,
+    state: Option<&State>,
+    states: &mut List<PointState>,
+) -> Result<(), OutOfMemory>
+    ensures { OnOk result (states.new ≡ states.old ++ held point (option_copied state.entry)) }
+{
+    match state {
+        Some(state) => {
+            let state = state.copy()?;
+            states.push(PointState { at: point, state })
+        }
+        None => Ok(()),
+    }
 }
