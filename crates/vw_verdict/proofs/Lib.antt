@@ -3,3 +3,4 @@ pub mod Points
 pub mod Modules
 pub mod Counts
 pub mod Steps
+pub mod Functions

@@ -1,5 +1,5 @@
 -- The points of a table, by their numbers.
-use Rattle.std.proofs.Common.{◌≡◌, ◌⊎◌, inl, inr, ℕ, zero, suc, ◌+◌, ◌≤◌, ◌<◌, Bool, true, false, cond, List, [], ◌∷◌, length, Option, Some, None, refl, sym, ◌∙◌, ap, subst, arith}
+use Rattle.std.proofs.Common.{◌≡◌, ◌⊎◌, inl, inr, ℕ, zero, suc, ◌+◌, ◌≤◌, ◌<◌, Bool, true, false, cond, List, [], ◌∷◌, length, get_or, Option, Some, None, refl, sym, ◌∙◌, ap, subst, arith}
 use Rattle.std.specs.Prelude.{◌==◌, nat_lt}
 use Rattle.std.specs.List.{slice_get, find}
 use Rattle.std.specs.Option.{option_map}
@@ -133,3 +133,10 @@ fails_first code last table n p check rises is below failing = record {
             absurd (below g.k g.entry before g.is_at c here)
           | inr after ↦ omega (arith, in_order 0 last table rises n g.k p g.entry after is g.is_at, g.same_point)
         ]
+
+abbrev pub blank : PointState
+blank = record { at = 0; state = record {} }
+
+-- the entry with a number
+abbrev pub point_at : List PointState → ℕ → PointState
+point_at table k = get_or table k blank
