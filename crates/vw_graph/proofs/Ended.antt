@@ -33,19 +33,18 @@ module _ (code : List ℕ) (table : List (Option State)) where
 module _ (image : Contents) (from size : ℕ) (code : List ℕ) (is : code ≡ code_at image from size) (bytes : IsBytes code)
     (points : ℕ) (whole : points ≡ length code + 1) (edges : ℕ → State → List (ℕ × State)) (are : edges ≡ (λ at state. edges_at code at state))
     (table : List (Option State)) (least : solver.IsLeast IsBelow IsValid edges points 0 entry table) (states : List PointState) (gathers : states ≡ gather 0 table) where
-
   least_table : IsLeast (code_at image from size) states
   least_table =
       let solved = subst (λ (es : ℕ → State → List (ℕ × State)). solver.IsLeast IsBelow IsValid es points 0 entry table) are least in
       subst (λ (t : List PointState). IsLeast (code_at image from size) t) (sym gathers)
-        (subst (λ (c : List ℕ). IsLeast c (gather 0 table)) is (is_least code bytes points whole table solved))
+      (subst (λ (c : List ℕ). IsLeast c (gather 0 table)) is (is_least code bytes points whole table solved))
 
   pub stable : NoneFails code table → IsRounds image from size (Stable (record { entry = from; states = states }))
   stable none = record {
     entry_is = refl;
     least = least_table;
     ends = subst (λ (t : List PointState). PassesGraph (code_at image from size) t) (sym gathers)
-      (subst (λ (c : List ℕ). PassesGraph c (gather 0 table)) is (none_fails code table none));
+        (subst (λ (c : List ℕ). PassesGraph c (gather 0 table)) is (none_fails code table none));
   }
 
   pub stopped : (at check : ℕ) → FailsFirst code table at check → IsRounds image from size (Stopped (record { entry = from; states = states }) at check)
@@ -53,5 +52,5 @@ module _ (image : Contents) (from size : ℕ) (code : List ℕ) (is : code ≡ c
     entry_is = refl;
     least = least_table;
     ends = subst (λ (t : List PointState). StopsAt (code_at image from size) t at check) (sym gathers)
-      (subst (λ (c : List ℕ). StopsAt c (gather 0 table) at check) is (stops_at code table at check first));
+        (subst (λ (c : List ℕ). StopsAt c (gather 0 table) at check) is (stops_at code table at check first));
   }

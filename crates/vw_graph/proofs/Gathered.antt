@@ -22,7 +22,7 @@ gather_snoc from (Some s ∷ xs) zero = held_at from (from + 0) (Some s) (omega 
 gather_snoc from (None ∷ xs) (suc p) = gather_snoc (suc from) xs p ∙ ap (λ (h : List PointState). gather (suc from) (take p xs) ++ h) (held_at (suc from + p) (from + suc p) (state_at xs p) (omega arith))
 gather_snoc from (Some s ∷ xs) (suc p) =
     ap (λ (rest : List PointState). record { at = from; state = s } ∷ rest)
-      (gather_snoc (suc from) xs p ∙ ap (λ (h : List PointState). gather (suc from) (take p xs) ++ h) (held_at (suc from + p) (from + suc p) (state_at xs p) (omega arith)))
+    (gather_snoc (suc from) xs p ∙ ap (λ (h : List PointState). gather (suc from) (take p xs) ++ h) (held_at (suc from + p) (from + suc p) (state_at xs p) (omega arith)))
 
 one_more : (p : ℕ) → suc p ≡ p + 1
 one_more p = omega arith

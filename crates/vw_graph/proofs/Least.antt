@@ -57,7 +57,7 @@ module _ (code : List ℕ) (bytes : IsBytes code) (points : ℕ) (size : points 
     all_land : (at : ℕ) (state : State) → state_of (gather 0 table) at ≡ Some state → (edges : List (ℕ × State)) → Post code at state edges → All (Lands (gather 0 table)) edges
     all_land at state e edges post =
         subst (λ (es : List (ℕ × State)). All (Lands (gather 0 table)) es) (sym (only_edges code at bytes state edges post))
-          (λ k d less. lands (slice_index_or (edges_at code at state) k d) (least.solution.closed at state (sym (gathered table at) ∙ e) k d less))
+        (λ k d less. lands (slice_index_or (edges_at code at state) k d) (least.solution.closed at state (sym (gathered table at) ∙ e) k d less))
 
     lower : (other : List PointState) → IsSolution code other → IsLower (gather 0 table) other
     lower other solution at state e =

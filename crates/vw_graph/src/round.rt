@@ -42,11 +42,7 @@ pub fn rounds<L: Ledger>(
 }
 
 /// One round, over the direct edges of a site.
-fn round<L: Ledger>(
-    alloc: Global,
-    site: &Site,
-    steps: &mut Steps<L>,
-) -> Result<Rounds, OutOfMemory>
+fn round<L: Ledger>(alloc: Global, site: &Site, steps: &mut Steps<L>) -> Result<Rounds, OutOfMemory>
     requires { site.now.size ≤ 1048576 }
     ensures rounds { IfOk result (IsRounds site.now.image.now site.now.entry site.now.size) }
     ensures ticks { steps.new ≤ steps.old + (site.now.size + 1) }

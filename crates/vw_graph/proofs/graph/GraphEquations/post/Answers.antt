@@ -11,5 +11,5 @@ returns-clause-targets g c =
     let site = c.args.self.now.site in
     let code = code_at site.image.now site.entry site.size in
     on_ok_weaker c.post.result
-      (λ post. subst (λ (points : ℕ). All {X = ℕ × State} (λ edge. edge.0 < points) (edges_at code c.args.at c.args.state.now)) (sym c.args.self.now.whole) (post_points code c.args.at c.args.state.now (edges_at code c.args.at c.args.state.now) post))
-      c.post.ensures.post
+    (λ post. subst (λ (points : ℕ). All {X = ℕ × State} (λ edge. edge.0 < points) (edges_at code c.args.at c.args.state.now)) (sym c.args.self.now.whole) (post_points code c.args.at c.args.state.now (edges_at code c.args.at c.args.state.now) post))
+    c.post.ensures.post
