@@ -56,8 +56,8 @@ module _ (m : Module) (n : ℕ) (f : Function) (tables : List FunctionTable) (is
   each_more here other g less is_g =
       elim (below_or_at other n less) [
         | inl same ↦
-          let one : f ≡ g = some_is (sym is ∙ (ap (λ (k : ℕ). slice_get m.functions k) (sym same) ∙ is_g)) in
-          subst (λ (h : Function). HasSafeTable (code_in m.image h)) one here
+            let one : f ≡ g = some_is (sym is ∙ (ap (λ (k : ℕ). slice_get m.functions k) (sym same) ∙ is_g)) in
+            subst (λ (h : Function). HasSafeTable (code_in m.image h)) one here
         | inr before ↦ passed.each other g before is_g
       ]
 
@@ -69,17 +69,21 @@ module _ (m : Module) (n : ℕ) (f : Function) (tables : List FunctionTable) (is
   }
 
   pub judged_unsafe : IsMonotone → (place : Place) → Found m.image f (finding.Unsafe place) → Judged m (verdict.Unsafe place)
-  judged_unsafe monotone place found = (λ each. fails_here (each n f is), record {
-    number = n;
-    function = f;
-    is = is;
-    entry = found.0;
-    fails = found.1;
-    before = λ other g less is_g at check. safe_before (passed.each other g less is_g) at check;
-  })
+  judged_unsafe monotone place found = (
+    λ each. fails_here (each n f is),
+    record {
+      number = n;
+      function = f;
+      is = is;
+      entry = found.0;
+      fails = found.1;
+      before = λ other g less is_g at check. safe_before (passed.each other g less is_g) at check;
+    },
+  )
     where
       safe_before : {code : List ℕ} → HasSafeTable code → (at check : ℕ) → IsPlaceIn code at check → ⊥
       safe_before {code} has at check = no_place monotone code has.table has.is_safe at check
+
       fails_here : HasSafeTable (code_in m.image f) → ⊥
       fails_here has = no_place monotone (code_in m.image f) has.table has.is_safe place.at place.check found.1
 
@@ -87,7 +91,8 @@ pub judged_safe : (m : Module) (n : ℕ) (tables : List FunctionTable) → lengt
 judged_safe m n tables end passed = (
   λ number f is. passed.each number f (omega (arith, end, slice_get_within m.functions number f is)) is,
   subst (λ (fs : List Function). TablesOf IsLeast m.image fs tables) (take_all n m.functions end) passed.least,
-  subst (λ (fs : List Function). TablesOf IsSafeTable m.image fs tables) (take_all n m.functions end) passed.safe)
+  subst (λ (fs : List Function). TablesOf IsSafeTable m.image fs tables) (take_all n m.functions end) passed.safe,
+)
 
 -- the function with a number, of a list
 pub numbered_at : (functions : List Function) (n : ℕ) → n < length functions → (f : Function) × (slice_get functions n ≡ Some f)

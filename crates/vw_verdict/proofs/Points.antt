@@ -68,6 +68,7 @@ state_there from last (q ∷ rest) rises (suc k) p e = later (q.at == p.at) (dif
     later : (b : Bool) → b ≡ false → given (cond b (Some q) (find (λ (r : PointState). r.at == p.at) rest)) ≡ state_of rest p.at
     later true is = cc
     later false is = refl
+
     differ : (a b : ℕ) → suc a ≤ b → (a == b) ≡ false
     differ a b less = grind (arith, nat_tests, less)
 
@@ -102,9 +103,9 @@ passes_more code table n p is below here k q less is_q =
     elim (below_or k n) [
       | inl before ↦ below k q before is_q
       | inr above ↦
-        let same_k : n ≡ k = omega (arith, less, above) in
-        let same : p ≡ q = some_is (sym is ∙ (ap (λ (i : ℕ). slice_get table i) same_k ∙ is_q)) in
-        subst (λ (r : PointState). Passes code r.at r.state) same here
+          let same_k : n ≡ k = omega (arith, less, above) in
+          let same : p ≡ q = some_is (sym is ∙ (ap (λ (i : ℕ). slice_get table i) same_k ∙ is_q)) in
+          subst (λ (r : PointState). Passes code r.at r.state) same here
     ]
 
 pub passes_all : (code : List ℕ) (table : List PointState) (n : ℕ) → length table ≤ n → PassesBelow code table n → NoneFails code table
@@ -128,9 +129,9 @@ fails_first code last table n p check rises is below failing = record {
         let g = gives table other s there in
         elim (below_or g.k n) [
           | inl before ↦
-            let moved : Fails code other g.entry.state c = subst (λ (t : State). Fails code other t c) (sym g.same_state) fails in
-            let here : Fails code g.entry.at g.entry.state c = subst (λ (a : ℕ). Fails code a g.entry.state c) (sym g.same_point) moved in
-            absurd (below g.k g.entry before g.is_at c here)
+              let moved : Fails code other g.entry.state c = subst (λ (t : State). Fails code other t c) (sym g.same_state) fails in
+              let here : Fails code g.entry.at g.entry.state c = subst (λ (a : ℕ). Fails code a g.entry.state c) (sym g.same_point) moved in
+              absurd (below g.k g.entry before g.is_at c here)
           | inr after ↦ omega (arith, in_order 0 last table rises n g.k p g.entry after is g.is_at, g.same_point)
         ]
 
