@@ -1,5 +1,5 @@
 -- How a round ends.
-use Rattle.std.proofs.Common.{◌≡◌, ℕ, ◌+◌, List, length, Option, Some, refl, sym, ◌∙◌, subst}
+use Rattle.std.proofs.Common.{◌≡◌, ℕ, ◌+◌, List, length, Option, refl, sym, ◌∙◌, subst}
 use Rattle.vw_image.specs.Image.{Contents}
 use Rattle.vw_rows.specs.Numbers.{IsBytes}
 use Rattle.vw_solver.specs.Solution as solver
@@ -9,7 +9,6 @@ use Rattle.vw_state.specs.declared.tables.PointState.{PointState}
 use Rattle.vw_state.specs.State.{IsBelow, entry}
 use Rattle.vw_state.specs.Code.{code_at}
 use Rattle.vw_state.specs.Post.{edges_at}
-use Rattle.vw_state.specs.Tables.{state_of}
 use Rattle.vw_state.specs.Solution.{IsLeast}
 use Rattle.vw_state.specs.Checks.{PassesGraph, StopsAt}
 use Rattle.vw_graph.specs.declared.ends.Rounds.TheVariants.{Stable, Stopped}

@@ -1,8 +1,6 @@
 -- The table of points that a table of states gives.
-use Rattle.std.proofs.Common.{◌≡◌, ℕ, zero, suc, ◌+◌, ◌<◌, ◌≤◌, ◌==◌, Bool, true, false, List, [], ◌∷◌, ◌++◌, length, take, take_all, Option, Some, None, refl, sym, ◌∙◌, ap, subst, arith}
+use Rattle.std.proofs.Common.{◌≡◌, ℕ, zero, suc, ◌+◌, ◌<◌, ◌≤◌, ◌==◌, true, false, List, [], ◌∷◌, ◌++◌, length, take, Option, Some, None, refl, sym, ◌∙◌, ap, arith}
 use Rattle.std.proofs.lemmas.Bool.Decides.{nat_tests}
-use Rattle.std.specs.List.{find}
-use Rattle.std.specs.Prelude.{option_map}
 use Rattle.vw_solver.specs.Solution.{state_at}
 use Rattle.vw_state.specs.declared.state.State.{State}
 use Rattle.vw_state.specs.declared.tables.PointState.{PointState}

@@ -1,5 +1,5 @@
 -- The least solution of a function's equations as a table of its points.
-use Rattle.std.proofs.Common.{◌≡◌, ℕ, zero, suc, ◌+◌, ◌*◌, ◌<◌, ◌≤◌, List, length, Option, Some, None, slice_index_or, All, refl, sym, ◌∙◌, ap, subst, arith}
+use Rattle.std.proofs.Common.{◌≡◌, ℕ, zero, suc, ◌+◌, ◌*◌, ◌≤◌, List, length, Option, Some, slice_index_or, All, refl, sym, ◌∙◌, subst, arith}
 use Rattle.vw_rows.specs.Numbers.{IsBytes}
 use Rattle.vw_solver.specs.Solution as solver
 use Rattle.vw_solver.specs.Solution.{state_at, IsCovered, RanksAtMost, weights_from}
@@ -7,7 +7,7 @@ use Rattle.vw_state.specs.declared.state.State.{State}
 use Rattle.vw_state.specs.declared.tables.PointState.{PointState}
 use Rattle.vw_state.specs.State.{IsBelow, entry}
 use Rattle.vw_state.specs.Post.{edges_at, Post}
-use Rattle.vw_state.specs.Tables.{state_of, RisesWithin}
+use Rattle.vw_state.specs.Tables.{state_of}
 use Rattle.vw_state.specs.Solution.{Lands, IsSolution, IsLower, IsLeast}
 use Rattle.vw_state.proofs.Begins.{edges_post, only_edges}
 use Rattle.vw_graph.specs.Solved.{gather}

@@ -4,3 +4,4 @@ mod Spread
 mod Least
 mod Ended
 mod Declared
+mod Sizes

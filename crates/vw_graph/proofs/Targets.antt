@@ -1,12 +1,12 @@
 -- Where edges go, and what fails at a point.
-use Rattle.std.proofs.Common.{◌≡◌, ℕ, suc, ◌+◌, ◌<◌, ◌≤◌, Bool, true, false, ℤ, pos, negsuc, List, [], ◌∷◌, ◌++◌, length, Option, Some, None, IfSome, if◌then◌else◌, nat_lt, cond, refl, sym, ap, subst, arith, All}
+use Rattle.std.proofs.Common.{◌≡◌, ℕ, ◌+◌, ◌<◌, ◌≤◌, Bool, true, false, ℤ, pos, negsuc, List, [], ◌∷◌, ◌++◌, length, Option, Some, None, if◌then◌else◌, nat_lt, cond, refl, subst, arith, All}
 use Rattle.std.proofs.lemmas.List.Elements.{All-nil, All-cons}
 use Rattle.std.proofs.lemmas.Bool.Decides.{nat_tests}
 use Rattle.vw_insn.specs.declared.instruction.Insn.{Insn}
 use Rattle.vw_insn.specs.declared.instruction.Insn.TheVariants as insn
-use Rattle.vw_state.specs.Code.{BeginsAt, StandsAlone, NothingAt}
+use Rattle.vw_state.specs.Code.{StandsAlone}
 use Rattle.vw_state.specs.Post.{target, inside, edge_to, edges_of, Post, nothing, begins}
-use Rattle.vw_state.specs.Checks.{GoesOut, LacksCode, LeavesFunction, FailsGraph, lacks_code, leaves}
+use Rattle.vw_state.specs.Checks.{GoesOut, LeavesFunction, FailsGraph, lacks_code, leaves}
 
 module _ {S : Type 0} (size : ℕ) where
   abbrev pub IsPoint : ℕ × S → Type 0

@@ -4,10 +4,12 @@
 mod ends;
 mod faults;
 mod graph;
+mod laws;
 mod round;
 mod solved;
 
 pub use ends::Rounds;
+pub use laws::code_has_its_size;
 pub use round::rounds;
 
 #[cfg(test)]

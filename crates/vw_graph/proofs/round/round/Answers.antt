@@ -1,12 +1,10 @@
-use Rattle.std.proofs.Common.{◌≡◌, ◌∙◌, ℕ, List, Option, sym, ap, subst, arith}
-use Rattle.vw_solver.specs.Solution as solver
+use Rattle.std.proofs.Common.{◌≡◌, ◌∙◌, ℕ, List, sym, ap, arith}
 use Rattle.vw_state.specs.declared.site.Site.{Site}
 use Rattle.vw_state.specs.declared.state.State.{State}
-use Rattle.vw_state.specs.State.{IsBelow, entry}
 use Rattle.vw_state.specs.Code.{code_at}
 use Rattle.vw_state.specs.Post.{edges_at}
 use Rattle.vw_graph.proofs.Ended.{stable, stopped}
-use Rattle.vw_graph.proofs.Least.{is_least, counted}
+use Rattle.vw_graph.proofs.Least.{counted}
 use Rattle.vw_graph.proofs.round.round.Goals as goal
 
 pub returns-in_err-solved-clause-ticks : goal.returns-in_err-solved-clause-ticks

@@ -1,4 +1,4 @@
-use Rattle.std.proofs.Common.{◌≡◌, ℕ, ◌+◌, ◌≤◌, subst}
+use Rattle.std.proofs.Common.{◌+◌, ◌≤◌, subst}
 use Rattle.vw_layout.specs.declared.functions.Function.{Function}
 use Rattle.vw_graph.specs.Rounds.{IsRounds}
 use Rattle.vw_graph.proofs.Declared.{short, one_function, of_each}

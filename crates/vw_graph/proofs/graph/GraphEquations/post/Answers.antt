@@ -1,4 +1,4 @@
-use Rattle.std.proofs.Common.{◌≡◌, ℕ, ◌<◌, sym, subst, All}
+use Rattle.std.proofs.Common.{ℕ, ◌<◌, sym, subst, All}
 use Rattle.std.proofs.lemmas.Result.{on_ok_weaker}
 use Rattle.vw_state.specs.declared.state.State.{State}
 use Rattle.vw_state.specs.Code.{code_at}
