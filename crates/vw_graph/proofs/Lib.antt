@@ -1,0 +1,7 @@
+mod Targets
+mod Gathered
+mod Spread
+mod Least
+mod Ended
+mod Declared
+mod Sizes

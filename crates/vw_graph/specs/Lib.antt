@@ -1,0 +1,3 @@
+pub mod Rounds
+pub mod Solved
+pub mod Monotone

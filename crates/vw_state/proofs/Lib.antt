@@ -1,0 +1,3 @@
+pub mod Begins
+mod Spellings
+pub mod Sites

@@ -1,0 +1,8 @@
+use Rattle.vw_state.proofs.Begins.{edges_post, only_edges}
+use Rattle.vw_state.proofs.laws.edges_are_post.Goals as goal
+
+pub returns-clause-are : goal.returns-clause-are
+returns-clause-are c = λ code at state bytes. edges_post code at bytes state
+
+pub returns-clause-only : goal.returns-clause-only
+returns-clause-only c = λ code at state edges bytes post. only_edges code at bytes state edges post

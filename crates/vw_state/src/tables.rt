@@ -1,0 +1,46 @@
+use crate::State;
+use vw_bits::List;
+
+/// The tables of a module's functions.
+#[derive(Debug, Drop)]
+pub struct Tables {
+    /// By ascending entry.
+    pub functions: List<FunctionTable>,
+}
+
+/// The table of a function: some of its points, from 0 to its size, with a state each.
+#[derive(Debug, Drop)]
+pub struct FunctionTable {
+    /// The address of the function's first byte, counted from the load address.
+    pub entry: u64,
+    /// By ascending point.
+    pub states: List<PointState>,
+}
+
+/// A point of a function with its state.
+#[derive(Debug, Drop)]
+pub struct PointState {
+    /// The offset from the function's first byte.
+    pub at: u32,
+    pub state: State,
+}
+
+/// Where a check fails.
+#[derive(Clone, Copy, Debug, PartialEq, Eq)]
+pub struct Place {
+    /// The address of the function's first byte, counted from the load address.
+    pub entry: u64,
+    /// The offset from the function's first byte.
+    pub at: u32,
+    /// The number of the check, 1 to 8.
+    pub check: u8,
+}
+
+/// What the analysis answers of a module.
+#[derive(Debug, Drop)]
+pub enum Verdict {
+    /// Every function is safe: the least tables.
+    Safe(Tables),
+    /// Some function is not: the place where a check fails.
+    Unsafe(Place),
+}

@@ -1,0 +1,130 @@
+use crate::{Site, entry_state, post};
+use std::alloc::{AllocError, Global};
+use std::test::Fail;
+use vw_bits::List;
+use vw_dynamic::Dynamic;
+use vw_elf::Elf;
+use vw_image::Image;
+use vw_solver::Edges;
+
+/// A number of so many bytes at an offset: (offset, bytes, number).
+type Patch = (usize, usize, u64);
+
+/// A file of 128 bytes: one PT_LOAD with R and X, from 0 at address 0, with eight bytes of code at its end.
+const FILE: [Patch; 12] = [
+    (0, 4, 0x464c_457f),
+    (4, 1, 2),
+    (5, 1, 1),
+    (16, 2, 3),
+    (18, 2, 62),
+    (32, 8, 64),
+    (54, 2, 56),
+    (56, 2, 1),
+    (64, 4, 1),
+    (68, 4, 5),
+    (96, 8, 128),
+    (104, 8, 128),
+];
+
+/// Eight bytes of code, the first one lowest, the size of the function that they begin with, a point, and
+/// the targets of its edges.
+type Case = (u64, u32, u32, &'static [u32]);
+
+const CASES: [Case; 24] = [
+    // nop, and behind its end
+    (0x90, 1, 0, &[1]),
+    (0x90, 1, 1, &[]),
+    (0x90, 1, 2, &[]),
+    (0x90, 0, 0, &[]),
+    // mov eax, [rdi + 8], and a point within it
+    (0x08_478b, 3, 0, &[3]),
+    (0x08_478b, 3, 1, &[]),
+    (0x08_478b, 2, 0, &[]),
+    // ud2, ret
+    (0x0b0f, 2, 0, &[]),
+    (0xc3, 1, 0, &[]),
+    // jumps to the start, to the last byte, to the end, and below the start
+    (0xfeeb, 2, 0, &[0]),
+    (0xffeb, 2, 0, &[1]),
+    (0x00eb, 2, 0, &[]),
+    (0xfdeb, 2, 0, &[]),
+    (0x90_fdeb, 3, 0, &[]),
+    (0xfc_eb90, 3, 1, &[]),
+    (0xfd_eb90, 3, 1, &[0]),
+    (0xff_ffff_fbe9, 5, 0, &[0]),
+    // branches: the target is first; one to the end; one to the next instruction
+    (0xc3_fe74, 3, 0, &[0, 2]),
+    (0xc3_0174, 3, 0, &[2]),
+    (0xc3_0074, 3, 0, &[2, 2]),
+    (0xffff_fffa_840f, 6, 0, &[0, 6]),
+    // a call, an addition, no instruction
+    (0xe8, 5, 0, &[]),
+    (0xc0_0148, 3, 0, &[]),
+    (0x06, 1, 0, &[]),
+];
+
+fn patch(bytes: &mut Vec<u8>, patches: &[Patch]) {
+    for (at, size, number) in patches {
+        let digits = number.to_le_bytes();
+        for index in 0..*size {
+            let place = at.wrapping_add(index);
+            if place < bytes.len() {
+                bytes[place] = digits[index.min(7)];
+            }
+        }
+    }
+}
+
+fn file(alloc: Global, code: u64) -> Result<List<u8>, AllocError> {
+    let mut bytes = vec![in alloc; 0u8; 128]?;
+    patch(&mut bytes, &FILE);
+    patch(&mut bytes, &[(120, 8, code)]);
+    Ok(List::from_vec(bytes))
+}
+
+/// The image of the file with this code. `None` where a rule is broken or memory is refused.
+fn image(alloc: Global, code: u64) -> Option<Image> {
+    let bytes = file(alloc, code).ok()?;
+    let Elf {
+        segments,
+        dynamics,
+        symbols: _,
+    } = Elf::read(alloc, bytes.as_slice()).ok()?;
+    let dynamic = Dynamic::read(
+        alloc,
+        bytes.as_slice(),
+        segments.as_slice(),
+        dynamics.as_slice(),
+    )
+    .ok()?;
+    Image::build(alloc, bytes, segments, dynamic).ok()
+}
+
+/// Whether the edges go to these targets, in their order.
+fn go_to(edges: &[(u32, crate::State)], targets: &[u32]) -> bool {
+    edges.len() == targets.len()
+        && edges
+            .iter()
+            .zip(targets)
+            .all(|(edge, target)| edge.0 == *target)
+}
+
+#[test]
+fn edges_of_instructions(rt: HostRuntime) -> Result<(), Fail> {
+    for (code, size, at, targets) in CASES.iter() {
+        let image = image(rt.alloc(), *code).ok_or("an image")?;
+        let site = Site {
+            image: &image,
+            entry: 120,
+            size: *size,
+        };
+        let state = entry_state(rt.alloc())?;
+        let mut edges: Edges<crate::State> = List::new(rt.alloc());
+        post(rt.alloc(), &site, *at, &state, &mut edges)?;
+        assert!(rt;
+            go_to(edges.as_slice(), *targets),
+            "{code:#x}, {size} bytes, at {at}"
+        );
+    }
+    Ok(())
+}

@@ -1,0 +1,6 @@
+pub mod SafeLemmas
+pub mod Points
+pub mod Modules
+pub mod Counts
+pub mod Steps
+pub mod Functions

@@ -1,0 +1,102 @@
+-- The verdict function by function.
+use Rattle.std.proofs.Common.{◌≡◌, ◌⊎◌, inl, inr, ℕ, zero, suc, ◌+◌, ◌≤◌, ◌<◌, ◌^◌, Bool, true, false, List, [], ◌∷◌, ◌++◌, length, take, map, get_or, Option, Some, None, refl, sym, ◌∙◌, ap, subst, arith}
+use Rattle.std.specs.Prelude.{nat_lt, Contains}
+use Rattle.std.specs.List.{slice_get}
+use Rattle.std.proofs.lemmas.Bool.Decides.{nat_tests}
+use Rattle.std.proofs.lemmas.List.{take_more, take_all}
+use Rattle.std.proofs.lemmas.Option.{slice_get_within, slice_get-get_or, get_or_from_slice_get}
+use Rattle.vw_image.specs.Image.{Contents}
+use Rattle.vw_layout.specs.declared.functions.Function.{Function}
+use Rattle.vw_layout.specs.declared.layout.Module.{Module}
+use Rattle.vw_state.specs.Solution.{IsLeast}
+use Rattle.vw_state.specs.declared.tables.FunctionTable.{FunctionTable}
+use Rattle.vw_state.specs.declared.tables.PointState.{PointState}
+use Rattle.vw_state.specs.declared.tables.Place.{Place}
+use Rattle.vw_state.specs.declared.tables.Verdict.TheVariants as verdict
+use Rattle.vw_verdict.specs.declared.function.Finding.TheVariants as finding
+use Rattle.vw_verdict.specs.Safe.{IsSafeTable, HasSafeTable}
+use Rattle.vw_verdict.specs.Places.{IsPlaceIn}
+use Rattle.vw_verdict.specs.Verdicts.{code_in, IsNumbered, TablesOf, EachHasSafeTable, IsPlaceOf, Judged}
+use Rattle.vw_verdict.specs.Findings.{Found}
+use Rattle.vw_verdict.proofs.SafeLemmas.{IsMonotone, no_place}
+
+tables_more : (Holds : List ℕ → List PointState → Type 0) (image : Contents) (functions : List Function) (tables : List FunctionTable) (f : Function) (t : FunctionTable)
+    → TablesOf Holds image functions tables → t.entry ≡ f.entry → Holds (code_in image f) t.states → TablesOf Holds image (functions ++ f ∷ []) (tables ++ t ∷ [])
+tables_more Holds image [] [] f t so entry holds = (entry, holds, tt)
+tables_more Holds image [] (u ∷ tables) f t so entry holds = absurd so
+tables_more Holds image (g ∷ functions) [] f t so entry holds = absurd so
+tables_more Holds image (g ∷ functions) (u ∷ tables) f t so entry holds = (so.0, so.1, tables_more Holds image functions tables f t so.2 entry holds)
+
+-- what is known once the functions below a number are found safe
+pub record Passed (m : Module) (n : ℕ) (tables : List FunctionTable) : Type 0 where
+  pub least : TablesOf IsLeast m.image (take n m.functions) tables
+  pub safe : TablesOf IsSafeTable m.image (take n m.functions) tables
+  pub each : (other : ℕ) (g : Function) → other < n → IsNumbered m other g → HasSafeTable (code_in m.image g)
+
+pub begins : (m : Module) → Passed m 0 []
+begins m = record { least = tt; safe = tt; each = λ other g less. absurd (omega (arith, less)) }
+
+some_is : {A : Type 0} {x y : A} → Some x ≡ Some y → x ≡ y
+some_is e = cc
+
+below_or_at : (k n : ℕ) → k < n + 1 → (k ≡ n) ⊎ (k < n)
+below_or_at k n less = decide (nat_lt k n) refl
+  where
+    decide : (is : Bool) → nat_lt k n ≡ is → (k ≡ n) ⊎ (k < n)
+    decide true is = inr (grind (arith, nat_tests, is))
+    decide false is = inl (grind (arith, nat_tests, is, less))
+
+module _ (m : Module) (n : ℕ) (f : Function) (tables : List FunctionTable) (is : IsNumbered m n f) (passed : Passed m n tables) where
+  one_more : take (n + 1) m.functions ≡ take n m.functions ++ f ∷ []
+  one_more =
+      let inside = slice_get_within m.functions n f is in
+      take_more m.functions n f inside ∙ ap (λ (g : Function). take n m.functions ++ g ∷ []) (get_or_from_slice_get m.functions n f f is)
+
+  each_more : HasSafeTable (code_in m.image f) → (other : ℕ) (g : Function) → other < n + 1 → IsNumbered m other g → HasSafeTable (code_in m.image g)
+  each_more here other g less is_g =
+      elim (below_or_at other n less) [
+        | inl same ↦
+            let one : f ≡ g = some_is (sym is ∙ (ap (λ (k : ℕ). slice_get m.functions k) (sym same) ∙ is_g)) in
+            subst (λ (h : Function). HasSafeTable (code_in m.image h)) one here
+        | inr before ↦ passed.each other g before is_g
+      ]
+
+  pub passed_more : (t : FunctionTable) → Found m.image f (finding.Safe t) → Passed m (n + 1) (tables ++ t ∷ [])
+  passed_more t found = record {
+    least = subst (λ (fs : List Function). TablesOf IsLeast m.image fs (tables ++ t ∷ [])) (sym one_more) (tables_more IsLeast m.image (take n m.functions) tables f t passed.least found.0 found.1);
+    safe = subst (λ (fs : List Function). TablesOf IsSafeTable m.image fs (tables ++ t ∷ [])) (sym one_more) (tables_more IsSafeTable m.image (take n m.functions) tables f t passed.safe found.0 found.2);
+    each = each_more (record { table = t.states; is_safe = found.2 });
+  }
+
+  pub judged_unsafe : IsMonotone → (place : Place) → Found m.image f (finding.Unsafe place) → Judged m (verdict.Unsafe place)
+  judged_unsafe monotone place found = (
+    λ each. fails_here (each n f is),
+    record {
+      number = n;
+      function = f;
+      is = is;
+      entry = found.0;
+      fails = found.1;
+      before = λ other g less is_g at check. safe_before (passed.each other g less is_g) at check;
+    },
+  )
+    where
+      safe_before : {code : List ℕ} → HasSafeTable code → (at check : ℕ) → IsPlaceIn code at check → ⊥
+      safe_before {code} has at check = no_place monotone code has.table has.is_safe at check
+
+      fails_here : HasSafeTable (code_in m.image f) → ⊥
+      fails_here has = no_place monotone (code_in m.image f) has.table has.is_safe place.at place.check found.1
+
+pub judged_safe : (m : Module) (n : ℕ) (tables : List FunctionTable) → length m.functions ≤ n → Passed m n tables → Judged m (verdict.Safe (record { functions = tables }))
+judged_safe m n tables end passed = (
+  λ number f is. passed.each number f (omega (arith, end, slice_get_within m.functions number f is)) is,
+  subst (λ (fs : List Function). TablesOf IsLeast m.image fs tables) (take_all n m.functions end) passed.least,
+  subst (λ (fs : List Function). TablesOf IsSafeTable m.image fs tables) (take_all n m.functions end) passed.safe,
+)
+
+-- the function with a number, of a list
+pub numbered_at : (functions : List Function) (n : ℕ) → n < length functions → (f : Function) × (slice_get functions n ≡ Some f)
+numbered_at functions n inside = (get_or functions n blank, slice_get-get_or functions n blank inside)
+  where
+    blank : Function
+    blank = record { entry = 0; size = 0; name = [] }

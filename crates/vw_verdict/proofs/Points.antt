@@ -1,0 +1,143 @@
+-- The points of a table, by their numbers.
+use Rattle.std.proofs.Common.{◌≡◌, ◌⊎◌, inl, inr, ℕ, zero, suc, ◌+◌, ◌≤◌, ◌<◌, Bool, true, false, cond, List, [], ◌∷◌, length, get_or, Option, Some, None, refl, sym, ◌∙◌, ap, subst, arith}
+use Rattle.std.specs.Prelude.{◌==◌, nat_lt}
+use Rattle.std.specs.List.{slice_get, find}
+use Rattle.std.specs.Option.{option_map}
+use Rattle.std.proofs.lemmas.Bool.Decides.{nat_tests}
+use Rattle.std.proofs.lemmas.Option.{slice_get_within}
+use Rattle.vw_state.specs.declared.state.State.{State}
+use Rattle.vw_state.specs.declared.tables.PointState.{PointState}
+use Rattle.vw_state.specs.Tables.{state_of, RisesWithin}
+use Rattle.vw_checks.specs.Checks.{Fails, Passes, LowestFailing}
+use Rattle.vw_verdict.specs.Safe.{NoneFails}
+use Rattle.vw_verdict.specs.Places.{FailsFirst}
+
+-- the table's entry with this number
+abbrev pub IsAt : List PointState → ℕ → PointState → Type 0
+IsAt table k p = slice_get table k ≡ Some p
+
+-- an entry that gives a point its state
+record Gives (table : List PointState) (point : ℕ) (state : State) : Type 0 where
+  pub k : ℕ
+  pub entry : PointState
+  pub is_at : IsAt table k entry
+  pub same_point : entry.at ≡ point
+  pub same_state : entry.state ≡ state
+
+some_is : {A : Type 0} {x y : A} → Some x ≡ Some y → x ≡ y
+some_is e = cc
+
+abbrev given : Option PointState → Option State
+given found = option_map (λ (p : PointState). p.state) found
+
+gives_step : (p : PointState) (rest : List PointState) (point : ℕ) (state : State) → (state_of rest point ≡ Some state → Gives rest point state)
+    → (same : Bool) → (p.at == point) ≡ same → given (cond same (Some p) (find (λ (q : PointState). q.at == point) rest)) ≡ Some state → Gives (p ∷ rest) point state
+gives_step p rest point state later true is e = record { k = 0; entry = p; is_at = refl; same_point = grind (arith, nat_tests, is); same_state = some_is e }
+gives_step p rest point state later false is e =
+    let g = later e in record { k = suc g.k; entry = g.entry; is_at = g.is_at; same_point = g.same_point; same_state = g.same_state }
+
+gives : (table : List PointState) (point : ℕ) (state : State) → state_of table point ≡ Some state → Gives table point state
+gives [] point state e = absurd (none_some e)
+  where
+    none_some : {A : Type 0} {x : A} → None ≡ Some x → ⊥
+    none_some e = cc
+gives (p ∷ rest) point state e = gives_step p rest point state (gives rest point state) (p.at == point) refl e
+
+above_first : (from last : ℕ) (table : List PointState) → RisesWithin from last table → (k : ℕ) (p : PointState) → IsAt table k p → from ≤ p.at
+above_first from last [] rises k p e = absurd (none_some e)
+  where
+    none_some : {A : Type 0} {x : A} → None ≡ Some x → ⊥
+    none_some e = cc
+above_first from last (q ∷ rest) rises zero p e = let same : q.at ≡ p.at = ap (λ (r : PointState). r.at) (some_is e) in omega (arith, same, rises.0)
+above_first from last (q ∷ rest) rises (suc k) p e = omega (arith, rises.0, above_first (suc q.at) last rest rises.2 k p e)
+
+state_there : (from last : ℕ) (table : List PointState) → RisesWithin from last table → (k : ℕ) (p : PointState) → IsAt table k p → state_of table p.at ≡ Some p.state
+state_there from last [] rises k p e = absurd (none_some e)
+  where
+    none_some : {A : Type 0} {x : A} → None ≡ Some x → ⊥
+    none_some e = cc
+state_there from last (q ∷ rest) rises zero p e =
+    let same = some_is e in
+    here (q.at == p.at) (grind (arith, nat_tests, ap (λ (r : PointState). r.at) same)) ∙ ap (λ (r : PointState). Some r.state) same
+  where
+    here : (b : Bool) → b ≡ true → given (cond b (Some q) (find (λ (r : PointState). r.at == p.at) rest)) ≡ Some q.state
+    here true is = refl
+    here false is = cc
+state_there from last (q ∷ rest) rises (suc k) p e = later (q.at == p.at) (differ q.at p.at (above_first (suc q.at) last rest rises.2 k p e)) ∙ state_there (suc q.at) last rest rises.2 k p e
+  where
+    later : (b : Bool) → b ≡ false → given (cond b (Some q) (find (λ (r : PointState). r.at == p.at) rest)) ≡ state_of rest p.at
+    later true is = cc
+    later false is = refl
+
+    differ : (a b : ℕ) → suc a ≤ b → (a == b) ≡ false
+    differ a b less = grind (arith, nat_tests, less)
+
+in_order : (from last : ℕ) (table : List PointState) → RisesWithin from last table → (j k : ℕ) (p q : PointState) → j ≤ k → IsAt table j p → IsAt table k q → p.at ≤ q.at
+in_order from last [] rises j k p q less e f = absurd (none_some e)
+  where
+    none_some : {A : Type 0} {x : A} → None ≡ Some x → ⊥
+    none_some e = cc
+in_order from last (x ∷ rest) rises zero zero p q less e f = let same : p.at ≡ q.at = ap (λ (r : PointState). r.at) (sym (some_is e) ∙ some_is f) in omega (arith, same)
+in_order from last (x ∷ rest) rises zero (suc k) p q less e f =
+    let same : x.at ≡ p.at = ap (λ (r : PointState). r.at) (some_is e) in
+    omega (arith, same, above_first (suc x.at) last rest rises.2 k q f)
+in_order from last (x ∷ rest) rises (suc j) zero p q less e f = absurd (omega (arith, less))
+in_order from last (x ∷ rest) rises (suc j) (suc k) p q less e f = in_order (suc x.at) last rest rises.2 j k p q (omega (arith, less)) e f
+
+-- no check fails at the entries below a number
+abbrev pub PassesBelow : List ℕ → List PointState → ℕ → Type 0
+PassesBelow code table n = (k : ℕ) (p : PointState) → k < n → IsAt table k p → Passes code p.at p.state
+
+pub passes_none : (code : List ℕ) (table : List PointState) → PassesBelow code table 0
+passes_none code table k p less = absurd (omega (arith, less))
+
+below_or : (k n : ℕ) → (k < n) ⊎ (n ≤ k)
+below_or k n = decide (nat_lt k n) refl
+  where
+    decide : (is : Bool) → nat_lt k n ≡ is → (k < n) ⊎ (n ≤ k)
+    decide true is = inl (grind (arith, nat_tests, is))
+    decide false is = inr (grind (arith, nat_tests, is))
+
+pub passes_more : (code : List ℕ) (table : List PointState) (n : ℕ) (p : PointState) → IsAt table n p → PassesBelow code table n → Passes code p.at p.state → PassesBelow code table (n + 1)
+passes_more code table n p is below here k q less is_q =
+    elim (below_or k n) [
+      | inl before ↦ below k q before is_q
+      | inr above ↦
+          let same_k : n ≡ k = omega (arith, less, above) in
+          let same : p ≡ q = some_is (sym is ∙ (ap (λ (i : ℕ). slice_get table i) same_k ∙ is_q)) in
+          subst (λ (r : PointState). Passes code r.at r.state) same here
+    ]
+
+pub passes_all : (code : List ℕ) (table : List PointState) (n : ℕ) → length table ≤ n → PassesBelow code table n → NoneFails code table
+passes_all code table n end below at state there =
+    let g = gives table at state there in
+    let passes : Passes code g.entry.at g.entry.state = below g.k g.entry (omega (arith, end, slice_get_within table g.k g.entry g.is_at)) g.is_at in
+    let moved : Passes code at g.entry.state = subst (λ (a : ℕ). Passes code a g.entry.state) g.same_point passes in
+    subst (λ (s : State). Passes code at s) g.same_state moved
+
+pub fails_first : (code : List ℕ) (last : ℕ) (table : List PointState) (n : ℕ) (p : PointState) (check : ℕ) → RisesWithin 0 last table → IsAt table n p → PassesBelow code table n
+    → LowestFailing code p.at p.state (Some check) → FailsFirst code table p.at check
+fails_first code last table n p check rises is below failing = record {
+  state = p.state;
+  there = state_there 0 last table rises n p is;
+  fails = failing;
+  lowest = λ other s there c fails. lowest other s there c fails;
+}
+  where
+    lowest : (other : ℕ) (s : State) → state_of table other ≡ Some s → (c : ℕ) → Fails code other s c → p.at ≤ other
+    lowest other s there c fails =
+        let g = gives table other s there in
+        elim (below_or g.k n) [
+          | inl before ↦
+              let moved : Fails code other g.entry.state c = subst (λ (t : State). Fails code other t c) (sym g.same_state) fails in
+              let here : Fails code g.entry.at g.entry.state c = subst (λ (a : ℕ). Fails code a g.entry.state c) (sym g.same_point) moved in
+              absurd (below g.k g.entry before g.is_at c here)
+          | inr after ↦ omega (arith, in_order 0 last table rises n g.k p g.entry after is g.is_at, g.same_point)
+        ]
+
+abbrev pub blank : PointState
+blank = record { at = 0; state = record {} }
+
+-- the entry with a number
+abbrev pub point_at : List PointState → ℕ → PointState
+point_at table k = get_or table k blank

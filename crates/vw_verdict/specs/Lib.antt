@@ -1,0 +1,4 @@
+pub mod Safe
+pub mod Places
+pub mod Verdicts
+pub mod Findings

@@ -1,0 +1,14 @@
+//! The verdict on a module: its least tables where every function has a safe table, else the place where a
+//! check fails.
+#![tactic(auto)]
+
+mod failing;
+mod function;
+mod laws;
+mod module;
+
+pub use laws::least_table_is_safe;
+pub use module::judge;
+
+#[cfg(test)]
+mod tests;
