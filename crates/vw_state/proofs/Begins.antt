@@ -1,13 +1,12 @@
 -- Instructions at a point of code, and the edges that leave it.
-use Rattle.std.proofs.Common.{◌≡◌, ℕ, ◌+◌, ◌-◌, ◌<◌, ◌≤◌, List, [], length, take, drop, Option, Some, None, IfSome, IfNone, refl, sym, ◌∙◌, ap, subst, arith}
+use Rattle.std.proofs.Common.{◌≡◌, ℕ, ◌+◌, ◌-◌, List, [], length, drop, Option, Some, None, refl, sym, ◌∙◌, ap, arith}
 use Rattle.std.proofs.lemmas.List.{length-drop, get_or-drop}
 use Rattle.vw_insn.specs.declared.instruction.Insn.{Insn}
 use Rattle.vw_rows.specs.Numbers.{IsBytes}
 use Rattle.vw_rows.specs.Meaning.{insn_of}
-use Rattle.vw_rows.specs.Spelling.{Spells}
 use Rattle.vw_decode.specs.Lexing.{Found, read}
 use Rattle.vw_decode.proofs.Whole.{read_spells, none_spelled, one_answer, read_length}
-use Rattle.vw_state.specs.Code.{BeginsAt, StandsAlone, NothingAt}
+use Rattle.vw_state.specs.Code.{BeginsAt, NothingAt}
 use Rattle.vw_state.specs.Post.{edges_of, edges_read, edges_at, Post, nothing, begins}
 
 IsBytes-drop : (n : ℕ) (bytes : List ℕ) → IsBytes bytes → IsBytes (drop n bytes)

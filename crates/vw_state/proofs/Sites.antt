@@ -1,5 +1,5 @@
 -- The bytes of a site.
-use Rattle.std.proofs.Common.{◌≡◌, ℕ, ◌≤◌, List, [], length, min, take, drop, Bor, Option, Some, None, Result, Ok, Err, OnOk, unwrap_or, option_map, refl, arith}
+use Rattle.std.proofs.Common.{◌≡◌, ℕ, ◌≤◌, List, [], length, take, drop, Bor, Option, Some, None, Result, Ok, Err, OnOk, unwrap_or, option_map, refl, arith}
 use Rattle.std.specs.Prelude.{option_copied}
 use Rattle.std.proofs.lemmas.List.{length-take}
 use Rattle.vw_bits.specs.Places.{file_offset}

@@ -1,5 +1,5 @@
 -- What a decoder's answer says of the code at a point.
-use Rattle.std.proofs.Common.{◌≡◌, ℕ, ◌+◌, ◌<◌, ◌≤◌, List, length, take, drop, Option, Some, None, IfSome, IfNone, sym, ap, subst, arith}
+use Rattle.std.proofs.Common.{◌≡◌, ℕ, ◌<◌, ◌≤◌, List, length, take, drop, Option, Some, None, sym, ap, subst, arith}
 use Rattle.std.proofs.lemmas.List.{length-drop}
 use Rattle.vw_insn.specs.declared.instruction.Insn.{Insn}
 use Rattle.vw_rows.specs.Spelling.{Spells}

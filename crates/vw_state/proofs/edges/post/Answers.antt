@@ -1,8 +1,6 @@
-use Rattle.std.proofs.Common.{◌≡◌, ◌∙◌, ℕ, List, ◌++◌, append-nil, [], ap, sym, subst}
+use Rattle.std.proofs.Common.{◌∙◌, ℕ, List, ◌++◌, append-nil, ap, sym, subst}
 use Rattle.std.proofs.lemmas.Result.{on_ok_weaker}
-use Rattle.vw_rows.specs.Numbers.{IsBytes}
 use Rattle.vw_state.specs.declared.state.State.{State}
-use Rattle.vw_state.specs.Code.{code_at}
 use Rattle.vw_state.specs.Post.{edges_at, Post}
 use Rattle.vw_state.proofs.Begins.{edges_post, none_edges, begun_edges}
 use Rattle.vw_state.proofs.Sites.{on_ok}

@@ -1,4 +1,4 @@
-use Rattle.std.proofs.Common.{◌≡◌, ◌∙◌, ap, ℕ, List, [], Bor, Option, unwrap_or, length, ◌≤◌, subst, sym}
+use Rattle.std.proofs.Common.{◌∙◌, ap, ℕ, List, [], Bor, Option, unwrap_or, length, ◌≤◌, subst, sym}
 use Rattle.vw_state.specs.Code.{code_at}
 use Rattle.vw_state.proofs.Sites.{copied_or, code_size}
 use Rattle.vw_state.proofs.site.Site.code.Goals as goal
