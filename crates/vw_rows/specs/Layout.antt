@@ -1,5 +1,5 @@
--- Which parts an instruction of a row has, and how long each is: equations on lengths, that no row has a
--- case of its own in.
+-- Which parts an instruction of a row has, and how long each is: equations on lengths, and two fields that
+-- rows fix.
 use Rattle.std.specs.Prelude.{◌≡◌, ℕ, ◌<◌, ◌==◌, Bool, true, false, not, ◌&&◌, if◌then◌else◌, Option, None, Some, IfSome, length}
 use Rattle.vw_insn.specs.declared.registers.Width.{Width}
 use Rattle.vw_insn.specs.declared.registers.Width.TheVariants.{W8, W16, W32, W64}

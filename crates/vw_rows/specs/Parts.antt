@@ -22,7 +22,7 @@ pub record Parts : Type 0 where
   pub modrm : Option Modrm
   pub imm : List ℕ
 
--- the legacy prefix, of which there is one at most (SDM volume 2, 2.1.1)
+-- the legacy prefix (SDM volume 2, 2.1.1). The processor takes one of each group; here there is one at most.
 abbrev pub prefix_bytes : Prefix → List ℕ
 prefix_bytes Plain = []
 prefix_bytes P66 = 0x66 ∷ []

@@ -111,8 +111,8 @@ pub enum Immediate {
 /// One row: the opcode, digit, form and prefix that it is found by, and what it means.
 #[derive(Clone, Copy, Debug, PartialEq, Eq)]
 pub struct Row {
-    /// Its place in the list of all rows, from 0. Of several rows that spell an instruction the least
-    /// is taken.
+    /// Its place in the list of all rows, from 0. Of several rows that spell an instruction an encoder takes the
+    /// one with the least number.
     pub number: u16,
     pub pattern: Pattern,
     pub kind: Kind,

@@ -33,7 +33,8 @@ fn first_match(rows: &[Row], key: Key) -> Option<Row>
     rows.iter().copied().find(|row| is_match(row, key))
 }
 
-fn is_match(row: &Row, key: Key) -> bool
+/// Whether the row is that of the key.
+pub fn is_match(row: &Row, key: Key) -> bool
     ensures { result ≡ matches row.now key }
 {
     let pattern = row.pattern;

@@ -1,4 +1,5 @@
-/// The legacy prefix of an instruction, of which there is one at most (SDM volume 2, 2.1.1).
+/// The legacy prefix of an instruction (SDM volume 2, 2.1.1). The processor takes one of each group; here
+/// there is one at most.
 #[derive(Clone, Copy, Debug, PartialEq, Eq)]
 pub enum Prefix {
     /// None of 66, F2 and F3.

@@ -14,7 +14,7 @@ macro_rules! rows {
     };
 }
 
-/// The rows of the map.
+/// The rows of the map, in the order of their numbers.
 pub fn rows_of(map: Map) -> &'static [Row]
     ensures { result.now ≡ filter (λ r. same_map r.pattern.map map) rows }
 {

@@ -1,0 +1,12 @@
+mod Buffers
+mod Lengths
+mod Laid
+mod Told
+mod Digits
+mod Facts
+mod Excluded
+mod Fields
+mod Candidates
+mod Rows
+mod Complete
+mod Firsts

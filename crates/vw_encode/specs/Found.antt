@@ -1,0 +1,47 @@
+-- What the search has found of a row.
+use Rattle.std.specs.Prelude.{◌≡◌, ◌⊎◌, ◌<◌, ◌≤◌, Bool, true, Option, MatchOption}
+use Rattle.vw_insn.specs.declared.registers.Width.{Width}
+use Rattle.vw_insn.specs.declared.instruction.Insn.{Insn}
+use Rattle.vw_rows.specs.declared.forms.Row.{Row}
+use Rattle.vw_rows.specs.Parts.{Parts, bytes_of}
+use Rattle.vw_rows.specs.Layout.{IsLaid}
+use Rattle.vw_rows.specs.Meaning.{insn_of}
+use Rattle.vw_encode.specs.declared.buffer.Spelled.{Spelled}
+use Rattle.vw_encode.specs.declared.candidate.Choice.{Choice}
+use Rattle.vw_encode.specs.Buffer.{Holds}
+use Rattle.vw_rows.specs.Rows.{rows}
+use Rattle.vw_rows.specs.Lookup.{IsIn}
+use Rattle.vw_encode.specs.declared.search.Ranked.{Ranked}
+use Rattle.vw_encode.specs.Normal.{Normal, Without, mode_of, scale_of}
+use Rattle.vw_encode.specs.Order.{rank_of, mode_rank, PartsBefore}
+
+-- the buffer holds the parts, which are the instruction by the row
+pub record Made (s : Spelled) (p : Parts) (row : Row) (w : Width) (insn : Insn) : Type 0 where
+  pub laid : IsLaid p row w
+  pub meant : insn_of row w p ≡ insn
+  pub holds : Holds s (bytes_of p)
+
+-- not after the choice
+pub record AtMost (q : Parts) (c : Choice) : Type 0 where
+  pub prefix : q.prefix ≡ c.prefix
+  pub rex : q.rex ≡ c.rex
+  pub scale : rank_of (scale_of q.modrm) ≤ rank_of c.scale
+  pub mode : mode_rank (mode_of q.modrm) ≤ mode_rank c.mode
+
+-- of the normal spellings by the row that have P the first, which has Q
+pub record FirstOf (s : Spelled) (row : Row) (insn : Insn) (Q P : Parts → Type 0) : Type 0 where
+  pub parts : Parts
+  pub width : Width
+  pub made : Made s parts row width insn
+  pub at : Q parts
+  pub first : (p : Parts) → Normal p row insn → P p → (p ≡ parts) ⊎ PartsBefore parts p
+
+-- of all rows of the set the first that spells the instruction, and its first spelling
+pub record FoundIn (f : Ranked) (rs : Row → Bool) (insn : Insn) : Type 0 where
+  pub row : Row
+  pub number : row.number ≡ f.number
+  pub best : FirstOf f.spelled row insn (λ q. Unit {0}) (λ p. Unit {0})
+  pub later : (r : Row) → IsIn r rows → rs r ≡ true → (r ≡ row) ⊎ (row.number < r.number) ⊎ Without r insn (λ p. Unit {0})
+
+abbrev pub Best : Option Ranked → (Row → Bool) → Insn → Type 0
+Best found rs insn = MatchOption found ((r : Row) → IsIn r rows → rs r ≡ true → Without r insn (λ p. Unit {0})) (λ f. FoundIn f rs insn)
