@@ -7,3 +7,4 @@ pub mod Modules
 pub mod Verdicts
 pub mod Answers
 pub mod LawLemmas
+pub mod RoundTrips

@@ -8,6 +8,7 @@ mod laws;
 mod lines;
 mod program;
 mod request;
+mod round_trip;
 mod status;
 mod verdict;
 mod walk;

@@ -1,6 +1,7 @@
 ghost use Rattle.std.specs.Prelude.{◌≡◌, ◌^◌, ◌≤◌, ◌<◌, Some, length, IfOk};
 
 use crate::program::run;
+use crate::round_trip::round_trip;
 use crate::smallest::smallest_module;
 use crate::status::Status;
 use bitflags::Flags;
@@ -8,6 +9,7 @@ use std::alloc::Global;
 use std::process::Abort;
 use std::test::Fail;
 use vw_bits::{List, Rights, Text, low32, read_u16, read_u32, read_u64, sign_extend, sum};
+use vw_insn::{Base, Insn, Mem, Place, Reg, Source, Width};
 use vw_outside::{Failed, MemoryShelf, MemorySink, NeverFails, Shelf, ShelfFile, Sink};
 
 const USAGE: &str =
@@ -314,5 +316,32 @@ fn lists_and_text(rt: HostRuntime) -> Result<(), Fail> {
 
     let code = Rights::from_bits_retain(5);
     assert!(rt; code.contains(Rights::X) && code.contains(Rights::R) && !code.contains(Rights::W));
+    Ok(())
+}
+
+// Instructions that are encoded, followed by other bytes, and decoded; and one that nothing spells.
+#[test]
+fn encodes_and_decodes(rt: HostRuntime) -> Result<(), Fail> {
+    let alloc = rt.alloc();
+    let rax = Place::Reg(Reg::Rax);
+    let memory = Place::Mem(Mem {
+        base: Base::Reg(Reg::Rdi),
+        index: None,
+        disp: 8,
+    });
+    let mov = |dst, src| Insn::Mov {
+        w: Width::W32,
+        dst,
+        src: Source::Place(src),
+    };
+    for (insn, length) in [
+        (mov(rax, memory), Some(3)),
+        (mov(memory, rax), Some(3)),
+        (Insn::Ret, Some(1)),
+        (mov(memory, memory), None),
+    ] {
+        let found = round_trip(alloc, &insn, &[0x90, 0x0F])?;
+        assert_eq!(rt; found.map(|(_, length)| length), length);
+    }
     Ok(())
 }
