@@ -5,11 +5,10 @@
 -- writes twice. So what is read is a function of the registers, and the rest is a function of them and
 -- of the one number that was loaded.
 -- `next` is the address of the next instruction.
-use Rattle.std.specs.Prelude.{◌≡◌, ℕ, ◌+◌, ◌-◌, ◌*◌, ◌/◌, ◌%◌, ◌^◌, ◌<◌, ◌==◌, Bool, true, false, if◌then◌else◌, ℤ, pos, List, [], ◌∷◌, ◌++◌, Option, Some, None}
+use Rattle.std.specs.Prelude.{ℕ, ◌+◌, ◌*◌, ◌/◌, ◌%◌, ◌^◌, ◌<◌, Bool, true, false, if◌then◌else◌, ℤ, pos, List, [], ◌∷◌, Option, Some, None}
 use Rattle.vw_insn.specs.declared.registers.Reg.{Reg}
 use Rattle.vw_insn.specs.declared.registers.Reg.TheVariants.{Rsp}
 use Rattle.vw_insn.specs.declared.registers.Width.{Width}
-use Rattle.vw_insn.specs.declared.registers.Width.TheVariants.{W64}
 use Rattle.vw_insn.specs.declared.operands.Base.{Base}
 use Rattle.vw_insn.specs.declared.operands.Base.TheVariants as base
 use Rattle.vw_insn.specs.declared.operands.Mem.{Mem}
@@ -19,6 +18,7 @@ use Rattle.vw_insn.specs.declared.operands.Source.{Source}
 use Rattle.vw_insn.specs.declared.operands.Source.TheVariants as source
 use Rattle.vw_insn.specs.declared.instruction.Insn.{Insn}
 use Rattle.vw_insn.specs.declared.instruction.Insn.TheVariants as insn
+use Rattle.vw_insn.specs.Conditions.{holds}
 use Rattle.vw_insn.specs.Words.{Registers, Flags, number, register_of, bytes_in, low, merged, with_high, word_of, put}
 
 -- what an instruction leaves open: numbers, by their place, and flags
@@ -42,6 +42,8 @@ pub record Write : Type 0 where
 pub data Transfer : Type 0 where
   -- on to the next instruction
   Next : Transfer
+  -- to this address, which the instruction names
+  To : (to : ℕ) → Transfer
   -- back to the address that was read from the top of the stack
   Back : (to : ℕ) → Transfer
   -- nowhere: the instruction traps
@@ -60,6 +62,8 @@ pub data Way : Type 0 where
 
 abbrev pub way : Insn → Way
 way (insn.Mov w dst src) = Ordinary
+way (insn.Jump rel) = Ordinary
+way (insn.Jcc cond rel) = Ordinary
 way insn.Ret = Return
 way insn.Nop = Ordinary
 way insn.Ud2 = Ordinary
@@ -135,15 +139,23 @@ writes_place next registers w (place.High h) x = []
 abbrev pub raised : ℕ → ℕ
 raised rsp = (rsp + 8) % 2 ^ 64
 
+-- the address of a relative target, modulo 2 ^ 64 (SDM volume 2, "JMP": it counts from the next instruction)
+abbrev pub relative : ℕ → ℤ → ℕ
+relative next rel = (next + word_of rel) % 2 ^ 64
+
 abbrev pub going : Registers → Flags → Transfer → After
 going registers flags to = record { registers = registers; flags = flags; writes = []; transfer = to }
 
 -- What an instruction before `next` does, once it has loaded a number. NOP does nothing, UD2 traps,
--- MOV writes its source, and RET takes the return address from the stack.
+-- MOV writes its source, JMP goes to its target, Jcc goes there where its condition holds, and RET takes the
+-- return address from the stack.
 abbrev pub effect : Insn → ℕ → Registers → Flags → ℕ → Open → After
 effect (insn.Mov w dst src) next registers flags loaded choice =
     let x = low w (source_word registers loaded src) in
     record { registers = put_place registers w dst x; flags = flags; writes = writes_place next registers w dst x; transfer = Next }
+effect (insn.Jump rel) next registers flags loaded choice = going registers flags (To (relative next rel))
+effect (insn.Jcc cond rel) next registers flags loaded choice =
+    going registers flags (if holds cond flags then To (relative next rel) else Next)
 effect insn.Ret next registers flags loaded choice = going (put registers 4 (raised (registers 4))) flags (Back loaded)
 effect insn.Nop next registers flags loaded choice = going registers flags Next
 effect insn.Ud2 next registers flags loaded choice = going registers flags Stop

@@ -1,4 +1,5 @@
 pub mod Words
+pub mod Conditions
 pub mod Effect
 pub mod Listed
 pub mod Names
