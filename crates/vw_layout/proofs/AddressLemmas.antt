@@ -1,5 +1,5 @@
 -- The addresses of symbols, in order, and the first symbol at each.
-use Rattle.std.proofs.Common.{◌≡◌, ℕ, ◌+◌, ◌<◌, ◌≤◌, ◌==◌, ◌||◌, ◌&&◌, ◌^◌, List, [], ◌∷◌, ◌++◌, map, length, get_or, take, Bool, true, false, not, cond, nat_lt, nat_le, Option, Some, None, All, inl, inr, refl, sym, ap, ◌∙◌, subst, arith, unwrap_or, zero, suc, Ordering}
+use Rattle.std.proofs.Common.{◌≡◌, ℕ, ◌+◌, ◌<◌, ◌≤◌, ◌==◌, ◌||◌, List, [], ◌∷◌, ◌++◌, map, length, get_or, Bool, true, false, not, cond, nat_lt, Option, Some, None, All, inl, inr, refl, sym, ap, ◌∙◌, subst, arith, unwrap_or, zero, suc, Ordering}
 use Rattle.std.specs.List.{find, filter_map, list_any, fold}
 use Rattle.std.specs.Option.{option_or, option_map_or}
 use Rattle.std.specs.Ordering.{nat_cmp, match_ordering}
@@ -7,7 +7,7 @@ use Rattle.std.specs.Map.{keys_of}
 use Rattle.std.specs.BTreeMap.{insert_entry, is_at}
 use Rattle.std.specs.BTreeSet.{insert_key}
 use Rattle.std.proofs.lemmas.Bool.Decides.{nat_tests, eqb_tells}
-use Rattle.std.proofs.lemmas.List.{map-append, take_more}
+use Rattle.std.proofs.lemmas.List.{map-append}
 use Rattle.std.proofs.lemmas.List.Sums.{fold-append}
 use Rattle.std.proofs.lemmas.List.Folds.{find-append}
 use Rattle.std.proofs.lemmas.List.Elements.{All-nil, All-cons}

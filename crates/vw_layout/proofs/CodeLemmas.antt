@@ -1,5 +1,5 @@
 -- What rules 27 and 28 give of the declared functions.
-use Rattle.std.proofs.Common.{◌≡◌, ℕ, zero, suc, ◌+◌, ◌≤◌, ◌<◌, ◌&&◌, ◌||◌, ◌==◌, Bool, true, false, not, cond, nat_le, List, [], ◌∷◌, length, get_or, map, All, Option, Some, None, IfSome, option_map, refl, sym, subst, arith, inl, inr, ◌⊎◌}
+use Rattle.std.proofs.Common.{◌≡◌, ℕ, suc, ◌&&◌, ◌||◌, ◌==◌, Bool, true, false, not, cond, nat_le, List, [], ◌∷◌, get_or, map, All, Option, Some, None, IfSome, refl, subst, arith}
 use Rattle.std.specs.Prelude.{Contains}
 use Rattle.std.specs.List.{find, filter, filter_map, cons_option, list_any}
 use Rattle.std.specs.Option.{option_or}
@@ -8,19 +8,16 @@ use Rattle.std.proofs.lemmas.Bool.Decides.{nat_tests}
 use Rattle.std.proofs.lemmas.List.Elements.{All-nil, All-cons, All-head, All-tail}
 use Rattle.vw_bits.specs.Headers.{segments_of, is_readable, is_executable}
 use Rattle.vw_bits.specs.HeaderRules.{header_fault}
-use Rattle.vw_bits.specs.Rules.{lowest_broken}
 use Rattle.vw_bits.specs.Places.{in_file_part}
 use Rattle.vw_bits.specs.Symbols.{is_defined, symbol_type}
-use Rattle.vw_bits.specs.declared.records.Segment.{Segment}
 use Rattle.vw_bits.proofs.RuleLemmas.{lowest-each}
 use Rattle.vw_elf.specs.SymbolSections.{symbol_sections}
 use Rattle.vw_dynamic.specs.Dynamic.{dynamic_fault}
-use Rattle.vw_layout.specs.Symbols.{is_function, symbols_for, symbols_of, has_role}
+use Rattle.vw_layout.specs.Symbols.{is_function, symbols_for, symbols_of}
 use Rattle.vw_layout.specs.Functions.{symbol_offset, is_code, is_misplaced, first_at, by_address, addresses_of, function_rules, function_of, functions_of}
 use Rattle.vw_layout.specs.Layout.{module_fault, layout_fault, layout_rules, IsModule, declared_functions, function_symbols}
 use Rattle.vw_layout.specs.Laws.{IsCode}
 use Rattle.vw_layout.specs.declared.symbols.SymbolEntry.{SymbolEntry}
-use Rattle.vw_layout.specs.declared.symbols.Role.TheVariants as role
 use Rattle.vw_layout.specs.declared.functions.Function.{Function}
 use Rattle.vw_layout.proofs.ShortLemmas.{find_none-All, unfound}
 
@@ -74,7 +71,7 @@ both_none : {A : Type 0} (a b : Option A) → option_or a b ≡ None → (a ≡ 
 both_none None b none = (refl, none)
 both_none (Some x) b none = cc
 
-layout_holds : (file : List ℕ) → IsModule file → layout_fault file ≡ None
+pub layout_holds : (file : List ℕ) → IsModule file → layout_fault file ≡ None
 unfolding module_fault
 layout_holds file is = (both_none (dynamic_fault file) (layout_fault file) (both_none (header_fault file) (option_or (dynamic_fault file) (layout_fault file)) is).1).1
 

@@ -8,3 +8,5 @@ pub mod SectionLemmas
 pub mod ModuleLemmas
 pub mod SearchLemmas
 pub mod CodeLemmas
+pub mod ApartLemmas
+pub mod ImportLemmas

@@ -1,5 +1,5 @@
 -- Modules: their functions ascend, and the first broken rule of the 36.
-use Rattle.std.proofs.Common.{◌≡◌, ℕ, ◌+◌, ◌<◌, ◌≤◌, ◌^◌, ◌++◌, [], ◌∷◌, Bool, List, map, length, get_or, All, Option, Some, None, Result, Ok, Err, IfOk, IfErr, OnOk, refl, sym, ap, subst, ◌∙◌, arith}
+use Rattle.std.proofs.Common.{◌≡◌, ℕ, ◌+◌, ◌<◌, ◌^◌, ◌++◌, [], ◌∷◌, Bool, List, map, length, get_or, Option, Some, None, Result, Ok, Err, IfOk, IfErr, OnOk, refl, sym, ap, subst, ◌∙◌, arith}
 use Rattle.std.specs.List.{position}
 use Rattle.std.specs.Option.{option_or}
 use Rattle.std.proofs.lemmas.List.{length-map, get_or-map}
@@ -10,11 +10,9 @@ use Rattle.vw_bits.specs.Headers.{segments_of}
 use Rattle.vw_bits.specs.HeaderRules.{header_fault}
 use Rattle.vw_bits.specs.Rules.{lowest_broken, AllHold}
 use Rattle.vw_bits.proofs.RuleLemmas.{lowest-shift}
-use Rattle.vw_elf.specs.SymbolSections.{symbol_sections}
 use Rattle.vw_elf.specs.declared.sections.SymbolSection.{SymbolSection}
 use Rattle.vw_dynamic.specs.Bounds.{AreBounded}
 use Rattle.vw_dynamic.specs.Dynamic.{dynamic_fault, file_relocations}
-use Rattle.vw_dynamic.specs.declared.dynamic.Relocation.{Relocation}
 use Rattle.vw_dynamic.proofs.BoundLemmas.{AreBounded-from_rules, length-from_rules, AreBounded-widen}
 use Rattle.vw_image.specs.Image.{Contents, image_of, IsImage}
 use Rattle.vw_layout.specs.Bounds.{IsShort, AreShort}

@@ -1,6 +1,6 @@
 -- Functions by ascending address: one that shares a byte with one before it shares one with the one just
 -- before it, where these share none.
-use Rattle.std.proofs.Common.{◌≡◌, ℕ, ◌+◌, ◌-◌, ◌<◌, ◌≤◌, List, map, length, get_or, take, Bool, true, false, nat_lt, All, refl, sym, ◌∙◌, arith}
+use Rattle.std.proofs.Common.{◌≡◌, ℕ, ◌+◌, ◌-◌, ◌<◌, ◌≤◌, List, map, length, get_or, take, Bool, true, false, All, arith}
 use Rattle.std.specs.List.{list_any}
 use Rattle.std.proofs.lemmas.Bool.Decides.{nat_tests}
 use Rattle.std.proofs.lemmas.List.{get_or-take, length-take-le, get_or-map, length-map}
@@ -14,7 +14,7 @@ use Rattle.vw_layout.proofs.AddressLemmas.{Rises-at}
 both : (a b : SymbolEntry) → a.symbol.value < b.symbol.value → b.symbol.value < a.symbol.value + a.symbol.size → share_byte a b ≡ true
 both a b low high = grind (arith, nat_tests)
 
-ordered : (xs : List SymbolEntry) (i j : ℕ) (d : SymbolEntry) → Rises 0 (map (λ s. s.symbol.value) xs) → i < j → j < length xs → (get_or xs i d).symbol.value < (get_or xs j d).symbol.value
+pub ordered : (xs : List SymbolEntry) (i j : ℕ) (d : SymbolEntry) → Rises 0 (map (λ s. s.symbol.value) xs) → i < j → j < length xs → (get_or xs i d).symbol.value < (get_or xs j d).symbol.value
 ordered xs i j d rises before inside =
     let within : i < length xs = omega arith in
     let first = get_or-map (λ (s : SymbolEntry). s.symbol.value) xs i d 0 within in

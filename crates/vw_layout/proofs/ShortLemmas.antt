@@ -1,5 +1,5 @@
 -- What rule 28 gives of function symbols.
-use Rattle.std.proofs.Common.{◌≡◌, ℕ, ◌+◌, ◌≤◌, ◌<◌, ◌^◌, ◌&&◌, ◌||◌, Bool, true, false, not, cond, nat_le, List, [], ◌∷◌, All, Option, Some, None, option_map, refl, arith, inl, inr, ◌⊎◌}
+use Rattle.std.proofs.Common.{◌≡◌, ℕ, ◌+◌, ◌≤◌, ◌<◌, ◌^◌, ◌&&◌, ◌||◌, Bool, true, false, not, cond, nat_le, List, [], ◌∷◌, All, Option, Some, None, refl, arith, inl, inr, ◌⊎◌}
 use Rattle.std.specs.List.{find, list_any}
 use Rattle.std.proofs.lemmas.Bool.{false≢true}
 use Rattle.std.proofs.lemmas.Bool.Decides.{nat_tests}
@@ -12,7 +12,7 @@ use Rattle.vw_bits.proofs.RuleLemmas.{lowest-each}
 use Rattle.vw_layout.specs.Functions.{symbol_offset, is_code, is_misplaced, function_rules}
 use Rattle.vw_layout.specs.declared.symbols.SymbolEntry.{SymbolEntry}
 
-passed : {X : Type 0} (x : X) (rest : Option X) (passes : Bool) → cond passes (Some x) rest ≡ None → (passes ≡ false) × (rest ≡ None)
+pub passed : {X : Type 0} (x : X) (rest : Option X) (passes : Bool) → cond passes (Some x) rest ≡ None → (passes ≡ false) × (rest ≡ None)
 passed x rest true none = cc
 passed x rest false none = (refl, none)
 

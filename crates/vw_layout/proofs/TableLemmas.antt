@@ -1,14 +1,13 @@
 -- Tables that pairs name: what is found in them, and where they end.
-use Rattle.std.proofs.Common.{◌≡◌, ℕ, ◌+◌, ◌*◌, ◌/◌, ◌<◌, ◌≤◌, ◌^◌, ◌&&◌, ◌||◌, ◌==◌, Bool, true, false, not, cond, List, [], ◌∷◌, ◌++◌, map, length, get_or, take, drop, All, Option, Some, None, option_map, refl, sym, ap, ◌∙◌, subst, arith, append_assoc, suc, inl, inr, ◌⊎◌}
-use Rattle.std.specs.List.{find, list_any, flat_map}
-use Rattle.std.specs.Option.{option_or}
+use Rattle.std.proofs.Common.{◌≡◌, ℕ, ◌+◌, ◌*◌, ◌<◌, ◌≤◌, ◌^◌, ◌&&◌, ◌||◌, Bool, true, false, not, cond, List, [], ◌∷◌, ◌++◌, map, length, get_or, take, drop, Option, Some, None, option_map, refl, sym, ap, ◌∙◌, arith, suc, inl, inr, ◌⊎◌}
+use Rattle.std.specs.List.{find, flat_map}
 use Rattle.std.proofs.lemmas.Bool.{false≢true}
 use Rattle.std.proofs.lemmas.Bool.Decides.{nat_tests}
 use Rattle.std.proofs.lemmas.List.{take_more, flat_map_more, map-append}
 use Rattle.std.proofs.lemmas.List.Concat.{flat_map-append}
 use Rattle.vw_bits.proofs.Tables.{table-more}
 use Rattle.std.proofs.lemmas.List.Folds.{find-append, flat_map-map}
-use Rattle.std.proofs.lemmas.List.Elements.{All-nil, All-cons, All-head, All-tail, All-weaker}
+use Rattle.std.proofs.lemmas.List.Elements.{All-head, All-tail, All-weaker}
 use Rattle.vw_bits.specs.Headers.{table, is_readable, is_executable}
 use Rattle.vw_bits.specs.Places.{in_file_part}
 use Rattle.vw_bits.specs.declared.records.Segment.{Segment}

@@ -1,5 +1,5 @@
 -- The declared functions of a file, and rules 27 to 31.
-use Rattle.std.specs.Prelude.{ℕ, ◌+◌, Bool, false, not, ◌&&◌, ◌==◌, nat_le, nat_lt, List, [], ◌∷◌, ◌++◌, length, map, fold, Option, is_none, option_map, unwrap_or, if◌then◌else◌}
+use Rattle.std.specs.Prelude.{ℕ, ◌+◌, Bool, false, not, ◌&&◌, ◌==◌, nat_le, nat_lt, List, [], ◌∷◌, length, map, fold, Option, is_none, option_map, unwrap_or, if◌then◌else◌}
 use Rattle.std.specs.List.{find, list_any, filter_map}
 use Rattle.std.specs.Option.{option_map_or}
 use Rattle.vw_bits.specs.Headers.{is_readable, is_executable}
@@ -30,8 +30,9 @@ is_misplaced segments s = not (nat_le s.symbol.size 1048576 && list_any (λ segm
 abbrev pub first_at : List SymbolEntry → ℕ → Option SymbolEntry
 first_at symbols address = find (λ s. s.symbol.value == address) symbols
 
--- Rule 29: the symbols of one address have one size. Of those that do not, the first whose size is not that
--- of the first symbol of its address is the later one.
+-- Rule 29: function symbols of one address have one size. A symbol breaks it where an earlier symbol of its
+-- address has another size. To find the first that does, it is enough to compare each symbol with the first of
+-- its address, since the symbols of an address before the one that breaks the rule all have one size.
 abbrev pub is_resized : List SymbolEntry → SymbolEntry → Bool
 is_resized symbols s = option_map_or (λ first. not (first.symbol.size == s.symbol.size)) (first_at symbols s.symbol.value) false
 

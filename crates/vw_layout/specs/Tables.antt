@@ -14,7 +14,6 @@ use Rattle.vw_image.specs.Words.{word_at}
 use Rattle.vw_image.specs.Stubs.{stub_at}
 use Rattle.vw_image.specs.declared.word.Word.{Word}
 use Rattle.vw_image.specs.declared.word.Word.TheVariants.{Plain, Based, Bound, Mixed, Outside}
-use Rattle.vw_image.specs.declared.stub.Stub.{Stub}
 use Rattle.vw_image.specs.declared.stub.StubTo.{StubTo}
 use Rattle.vw_image.specs.declared.stub.StubTo.TheVariants.{Import, Inside}
 use Rattle.vw_layout.specs.Functions.{symbol_offset}
@@ -143,8 +142,10 @@ is_probe imports number = option_map_or (bytes_eq probe_name) (slice_get imports
 abbrev pub is_entry : List Function → ℕ → Bool
 is_entry functions address = list_any (λ f. f.entry == address) functions
 
--- where a pointer may go at whose address a stub of this target stands: not to the probe, and inside to the
--- target, or to the address itself, at which a declared function begins
+-- A pointer may hold an address at which the bytes of a stub stand that jumps to this target. Where that is an
+-- import, it is any but the probe, whatever else begins at the address. Where it is an address of the image, a
+-- declared function begins at the target, since only then are the bytes a stub; or one begins at the address
+-- itself, and the pointer goes to that function.
 abbrev pub is_target : List (List ℕ) → List Function → ℕ → StubTo → Bool
 is_target imports functions address (Import number) = not (is_probe imports number)
 is_target imports functions address (Inside target) = is_entry functions target || is_entry functions address

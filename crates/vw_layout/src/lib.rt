@@ -15,7 +15,7 @@ mod tables;
 
 pub use faults::ModuleError;
 pub use functions::Function;
-pub use laws::functions_are_code;
+pub use laws::{functions_are_code, functions_ascend, imports_are_few};
 pub use layout::Module;
 pub use tables::{TableEntry, TableInfo};
 

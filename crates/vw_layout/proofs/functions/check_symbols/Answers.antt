@@ -1,9 +1,9 @@
-use Rattle.std.proofs.Common.{◌≡◌, ℕ, ◌+◌, ◌^◌, List, map, Option, None, All, rules, sym, ap, subst, ◌∙◌}
+use Rattle.std.proofs.Common.{◌≡◌, ℕ, List, map, rules, sym, ap, subst, ◌∙◌}
 use Rattle.std.specs.BTreeMap.{get, keys}
 use Rattle.std.specs.Ordering.{nat_cmp}
 use Rattle.std.specs.List.{find, filter_map}
 use Rattle.vw_layout.specs.Bounds.{Rises, IsShort, AreShort}
-use Rattle.vw_layout.specs.Functions.{function_rules, first_at, addresses_of, by_address, symbol_offset, is_resized, first_overlap, first_excess}
+use Rattle.vw_layout.specs.Functions.{function_rules, first_at, addresses_of, by_address, symbol_offset, is_resized, first_overlap}
 use Rattle.vw_layout.specs.declared.symbols.SymbolEntry.{SymbolEntry}
 use Rattle.vw_layout.proofs.AddressLemmas.{resized_same, order_same, Rises-by_address, All-by_address}
 use Rattle.vw_layout.proofs.ShortLemmas.{AreShort-from_rule}

@@ -1,4 +1,4 @@
-use Rattle.std.proofs.Common.{◌≡◌, ℕ, ◌+◌, ◌-◌, ◌<◌, ◌≤◌, take, get_or, None, All}
+use Rattle.std.proofs.Common.{◌≡◌, ◌+◌, ◌-◌, ◌<◌, ◌≤◌, take, get_or, None, All}
 use Rattle.std.specs.List.{find, list_any}
 use Rattle.vw_bits.specs.Rules.{with_earlier}
 use Rattle.vw_layout.specs.Functions.{share_byte}

@@ -1,4 +1,4 @@
-use Rattle.std.proofs.Common.{◌≡◌, ℕ, ◌^◌, List, Option, None, length, rules, refl, sym, ap, subst, ◌∙◌}
+use Rattle.std.proofs.Common.{◌≡◌, ℕ, ◌^◌, List, Option, length, rules, sym, ap, subst, ◌∙◌}
 use Rattle.std.proofs.lemmas.Result.{err_from_is_err_and}
 use Rattle.vw_bits.specs.declared.records.Segment.{Segment}
 use Rattle.vw_bits.specs.Headers.{segments_of}
@@ -7,7 +7,6 @@ use Rattle.vw_elf.specs.SymbolSections.{symbol_sections}
 use Rattle.vw_elf.specs.declared.sections.SymbolSection.{SymbolSection}
 use Rattle.vw_dynamic.specs.Bounds.{AreBounded}
 use Rattle.vw_dynamic.specs.Dynamic.{file_relocations}
-use Rattle.vw_dynamic.specs.declared.dynamic.Relocation.{Relocation}
 use Rattle.vw_image.specs.Image.{image_of}
 use Rattle.vw_layout.specs.Bounds.{AreInside}
 use Rattle.vw_layout.specs.Faults.{Names}
@@ -17,7 +16,6 @@ use Rattle.vw_layout.specs.Tables.{table_rules}
 use Rattle.vw_layout.specs.Spans.{Ascend}
 use Rattle.vw_layout.specs.Layout.{function_symbols, tables_symbols, declared_functions, import_rule}
 use Rattle.vw_layout.specs.declared.symbols.Role.TheVariants as role
-use Rattle.vw_layout.specs.declared.symbols.SymbolEntry.{SymbolEntry}
 use Rattle.vw_layout.specs.declared.functions.Function.{Function}
 use Rattle.vw_layout.proofs.SectionLemmas.{AreInside-from_rules}
 use Rattle.vw_layout.proofs.ModuleLemmas.{segments_low, segments_are, relocations_are, functions_ascend, in_functions, in_tables, in_imports, none_broken, function_rules_same, functions_same, tables_symbols_same, table_rules_same, tables_same}

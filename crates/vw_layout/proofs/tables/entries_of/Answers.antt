@@ -1,4 +1,4 @@
-use Rattle.std.proofs.Common.{◌≡◌, ℕ, refl, arith}
+use Rattle.std.proofs.Common.{◌≡◌, arith}
 use Rattle.vw_bits.proofs.Tables.{table-none}
 use Rattle.vw_layout.specs.Tables.{table_entry_at}
 use Rattle.vw_layout.proofs.TableLemmas.{read_one, read_all}

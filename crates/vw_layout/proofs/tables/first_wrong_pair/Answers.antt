@@ -1,4 +1,4 @@
-use Rattle.std.proofs.Common.{◌≡◌, ℕ, ◌+◌, ◌*◌, Bool, not, refl, sym, ◌∙◌, arith}
+use Rattle.std.proofs.Common.{◌≡◌, ℕ, Bool, not, refl, sym, arith}
 use Rattle.vw_bits.proofs.Tables.{table-none, find_table_more, find_table_here}
 use Rattle.vw_layout.specs.Tables.{is_pair}
 use Rattle.vw_layout.proofs.TableLemmas.{found_all}

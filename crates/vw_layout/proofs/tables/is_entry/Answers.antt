@@ -1,6 +1,5 @@
-use Rattle.std.proofs.Common.{sym, ap, ◌∙◌, is_some, ◌==◌}
+use Rattle.std.proofs.Common.{ap, ◌∙◌, is_some, ◌==◌}
 use Rattle.vw_layout.proofs.SearchLemmas.{position_some}
-use Rattle.vw_layout.specs.declared.functions.Function.{Function}
 use Rattle.vw_layout.proofs.tables.is_entry.Goals as goal
 
 pub returns : goal.returns

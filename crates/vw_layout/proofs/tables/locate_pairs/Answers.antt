@@ -1,4 +1,4 @@
-use Rattle.std.proofs.Common.{◌≡◌, ℕ, ◌+◌, ◌*◌, ◌/◌, ◌≤◌, ◌^◌, refl, sym, ◌∙◌, arith}
+use Rattle.std.proofs.Common.{refl, sym, ◌∙◌, arith}
 use Rattle.vw_bits.proofs.Tables.{table-none}
 use Rattle.vw_layout.specs.Tables.{pairs_of}
 use Rattle.vw_layout.proofs.TableLemmas.{read_below}

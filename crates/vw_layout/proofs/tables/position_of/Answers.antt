@@ -1,4 +1,4 @@
-use Rattle.std.proofs.Common.{◌≡◌, ℕ, ◌+◌, ◌-◌, ◌/◌, ◌<◌, length, get_or, sym, arith}
+use Rattle.std.proofs.Common.{◌+◌, ◌-◌, ◌/◌, ◌<◌, length, sym, arith}
 use Rattle.vw_layout.proofs.SearchLemmas.{position_found, position_missed, lower_half, upper_half}
 use Rattle.vw_layout.proofs.tables.position_of.Goals as goal
 

@@ -1,5 +1,4 @@
-use Rattle.std.proofs.Common.{◌≡◌, ℕ, ◌^◌, [], ◌∷◌, not, List, map, Option, None, option_map, rules, refl, sym, ap, subst, ◌∙◌}
-use Rattle.std.specs.List.{find}
+use Rattle.std.proofs.Common.{◌≡◌, ℕ, [], ◌∷◌, List, map, Option, None, rules, refl, sym, ap, subst, ◌∙◌}
 use Rattle.std.specs.Option.{option_or}
 use Rattle.std.proofs.lemmas.Result.{err_from_is_err_and}
 use Rattle.vw_bits.specs.Headers.{table}
@@ -8,7 +7,7 @@ use Rattle.vw_bits.specs.declared.records.Segment.{Segment}
 use Rattle.vw_image.specs.Image.{Contents}
 use Rattle.vw_layout.specs.Faults.{Names, Tells}
 use Rattle.vw_layout.specs.Functions.{symbol_offset}
-use Rattle.vw_layout.specs.Tables.{first_of, first_disagreeing, range_rule, pair_rule, table_rule, entry_rule, pairs_of, is_pair, place_of, table_at, table_rules, tables_of}
+use Rattle.vw_layout.specs.Tables.{first_of, first_disagreeing, range_rule, pair_rule, table_rule, entry_rule, pairs_of, place_of, table_at, table_rules, tables_of}
 use Rattle.vw_layout.specs.Spans.{span_at, table_in, AreLow}
 use Rattle.vw_layout.specs.declared.symbols.SymbolEntry.{SymbolEntry}
 use Rattle.vw_layout.specs.declared.functions.Function.{Function}

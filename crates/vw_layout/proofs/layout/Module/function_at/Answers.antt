@@ -1,4 +1,4 @@
-use Rattle.std.proofs.Common.{◌≡◌, ℕ, ◌<◌, ◌^◌, ◌==◌, List, sym, subst, ◌∙◌, arith}
+use Rattle.std.proofs.Common.{◌<◌, ◌^◌, ◌==◌, List, sym, subst, ◌∙◌, arith}
 use Rattle.vw_layout.specs.Spans.{Ascend}
 use Rattle.vw_layout.specs.Layout.{function_symbols}
 use Rattle.vw_layout.specs.declared.functions.Function.{Function}
