@@ -1,5 +1,5 @@
 -- What the checks take from the code of a function.
-use Rattle.std.proofs.Common.{◌≡◌, ℕ, ◌+◌, ◌≤◌, List, length, Bool, true, false, Option, Some, None, sym, ◌∙◌, subst, arith}
+use Rattle.std.proofs.Common.{◌≡◌, ℕ, ◌+◌, ◌≤◌, List, length, Bool, true, false, Some, sym, ◌∙◌, subst, arith}
 use Rattle.vw_insn.specs.declared.instruction.Insn.{Insn}
 use Rattle.vw_state.specs.declared.state.State.{State}
 use Rattle.vw_state.specs.Code.{StandsAlone}

@@ -1,5 +1,5 @@
 -- The checks at a point of a function with a state.
-use Rattle.std.specs.Prelude.{◌≡◌, ℕ, ◌≤◌, List, Option, Some, None}
+use Rattle.std.specs.Prelude.{ℕ, ◌≤◌, List, Option, Some, None}
 use Rattle.vw_insn.specs.declared.instruction.Insn.{Insn}
 use Rattle.vw_state.specs.declared.state.State.{State}
 use Rattle.vw_state.specs.Code.{BeginsAt}
@@ -13,11 +13,12 @@ pub record AccessesBelowHeap (code : List ℕ) (at : ℕ) : Type 0 where
   pub stands : BeginsAt code at instruction len
   pub below : IsBelowHeap instruction
 
--- The checks that fail at a point of the code with a state, by number. None heeds the state yet.
+-- The checks that fail at a point of the code with a state, by number. None heeds the state yet. None fails where an
+-- instruction stands whose meaning is not stated yet (`GoesOut`, `IsBelowHeap`).
 pub data Fails (code : List ℕ) (at : ℕ) (state : State) : ℕ → Type 0 where
   -- check 1, code: nothing decodes from the point to the function's end
   lacks_code : LacksCode code at → Fails code at state 1
-  -- check 2, flow: a direct jump or branch leaves the function
+  -- check 2, jump: a direct jump or branch leaves the function
   leaves : LeavesFunction code at → Fails code at state 2
   -- check 4, address: an access of the heap below its base
   below_heap : AccessesBelowHeap code at → Fails code at state 4

@@ -27,7 +27,9 @@ abbrev pub IsMoveBelow : Place → Source → Type 0
 IsMoveBelow dst (source.Place src) = ((dst ≡ place.Reg Rax) × IsBelowRdi src) ⊎ (IsBelowRdi dst × (src ≡ place.Reg Rax))
 IsMoveBelow dst (source.Imm i) = ⊥
 
--- MOV of 32 bits between eax and memory at rdi without an index, at a negative displacement (SDM volume 2, "MOV")
+-- MOV of 32 bits between eax and memory at rdi without an index, at a negative displacement (SDM volume 2, "MOV").
+-- No other MOV is one, whatever it reads or writes, and by the last case no other instruction is, also where its
+-- meaning is not stated yet: of these this tells nothing.
 abbrev pub IsBelowHeap : Insn → Type 0
 IsBelowHeap (insn.Mov w dst src) = (w ≡ W32) × IsMoveBelow dst src
 IsBelowHeap _ = ⊥

@@ -4,18 +4,20 @@ ghost use Rattle.vw_state.specs.declared.state.State.{State};
 ghost use Rattle.vw_checks.specs.Sites.{IsSiteOf};
 ghost use Rattle.vw_checks.specs.Checks.{LowestFailing};
 
-use crate::direct::goes_out;
 use crate::heap::is_below_heap;
 use std::alloc::Global;
 use vw_bits::OutOfMemory;
 use vw_layout::Module;
-use vw_state::{Site, State, instruction_at};
+use vw_state::{Site, State, instruction_at, leaves_function};
 
 /// The lowest number of the checks that fail at a point of a function with a state; `None` exactly where no
 /// check fails. The site is that of a declared function of the module. The checks are 1, code: nothing
-/// decodes in the bytes from the point to the function's end, or the point is above its size; 2, flow: a direct
-/// jump or branch leaves the function; 4, address: a MOV of 32 bits between EAX and memory at RDI without an
-/// index has a negative displacement. OutOfMemory where the allocator refuses a request.
+/// decodes in the bytes from the point to the function's end, as at each point at or above its size; 2, jump: a
+/// direct jump or branch leaves the function; 4, address: a MOV of 32 bits between EAX and memory at RDI without an
+/// index has a negative displacement. No check fails where an instruction other than NOP, MOV, UD2, RET, direct JMP
+/// and Jcc stands at the point, since its meaning is not stated yet, nor where a MOV stands there that check 4 does
+/// not name, whatever it reads or writes: of these the answer tells nothing, and a caller has to ask first that none
+/// is there. OutOfMemory where the allocator refuses a request.
 pub fn check(
     _alloc: Global,
     loaded: &Module,
@@ -47,7 +49,7 @@ fn failing(code: &[u8], size: u32, at: u32) -> Option<u8>
     let Some((insn, len)) = instruction_at(code, at) else {
         return Some(1);
     };
-    if goes_out(&insn, at + len, size) {
+    if leaves_function(size, at + len, &insn) {
         return Some(2);
     }
     if is_below_heap(&insn) {

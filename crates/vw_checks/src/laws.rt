@@ -10,5 +10,5 @@ ghost use Rattle.vw_checks.specs.Checks.{Fails, Passes};
 pub fn lower_states_pass()
     ensures passes { (code : List ℕ) (at : ℕ) (low high : State) → IsBelow low high → Passes code at high → Passes code at low }
     ensures code { (code : List ℕ) (at : ℕ) (low high : State) → IsBelow low high → (Fails code at high 1 → ⊥) → Fails code at low 1 → ⊥ }
-    ensures flow { (code : List ℕ) (at : ℕ) (low high : State) → IsBelow low high → (Fails code at high 2 → ⊥) → Fails code at low 2 → ⊥ }
+    ensures jump { (code : List ℕ) (at : ℕ) (low high : State) → IsBelow low high → (Fails code at high 2 → ⊥) → Fails code at low 2 → ⊥ }
 {}

@@ -2,7 +2,6 @@
 #![tactic(auto)]
 
 mod checks;
-mod direct;
 mod heap;
 mod laws;
 

@@ -129,6 +129,14 @@ read_spells bytes f insn fits e is =
       are_bytes = IsBytes-take (length bytes - length f.rest) bytes fits;
     }
 
+-- where no front is a spelling, nothing is read
+pub none_read : (bytes : List ℕ) → IsBytes bytes → ((n : ℕ) (insn : Insn) → Spells (take n bytes) insn → ⊥) → read bytes ≡ None
+none_read bytes fits none = decide (read bytes) refl
+  where
+    decide : (found : Option Found) → read bytes ≡ found → read bytes ≡ None
+    decide None e = e
+    decide (Some f) e = absurd (none (length bytes - length f.rest) (insn_of f.row f.width f.parts) (read_spells bytes f (insn_of f.row f.width f.parts) fits e refl))
+
 -- what a spelling is read as
 abbrev pub as_read : (bytes : List ℕ) (n : ℕ) (insn : Insn) → Spells (take n bytes) insn → Found
 as_read bytes n insn s = record { row = s.row; width = s.width; parts = s.parts; rest = drop n bytes }

@@ -1,7 +1,8 @@
 -- Reading an instruction from the front of a list of bytes, part by part: each function answers the part
 -- and the bytes behind it, or nothing where the bytes do not begin with that part.
-use Rattle.std.specs.Prelude.{ℕ, ◌/◌, ◌%◌, ◌==◌, Bool, true, false, if◌then◌else◌, nat_le, Option, None, Some, List, [], ◌∷◌, length, take, drop, find}
+use Rattle.std.specs.Prelude.{ℕ, ◌-◌, ◌/◌, ◌%◌, ◌==◌, Bool, true, false, if◌then◌else◌, nat_le, Option, None, Some, List, [], ◌∷◌, length, take, drop, find}
 use Rattle.vw_insn.specs.declared.registers.Width.{Width}
+use Rattle.vw_insn.specs.declared.instruction.Insn.{Insn}
 use Rattle.vw_rows.specs.declared.patterns.Prefix.{Prefix}
 use Rattle.vw_rows.specs.declared.patterns.Prefix.TheVariants.{Plain, P66, PF2, PF3}
 use Rattle.vw_rows.specs.declared.patterns.Map.{Map}
@@ -11,6 +12,7 @@ use Rattle.vw_rows.specs.Rows.{rows}
 use Rattle.vw_rows.specs.Lookup.{key, matches}
 use Rattle.vw_rows.specs.Parts.{Modrm, Parts, mode, reg, rex_w}
 use Rattle.vw_rows.specs.Layout.{has_modrm, width_at, takes_sib, displacement_length, immediate_length, has_fixed}
+use Rattle.vw_rows.specs.Meaning.{insn_of}
 
 infixl 10 ◌>>=◌
 abbrev pub ◌>>=◌ : {A B : Type 0} → Option A → (A → Option B) → Option B
@@ -86,6 +88,14 @@ pub record Found : Type 0 where
   pub width : Width
   pub parts : Parts
   pub rest : List ℕ
+
+-- the instruction that was found
+abbrev pub insn_found : Found → Insn
+insn_found f = insn_of f.row f.width f.parts
+
+-- how many of the bytes it has
+abbrev pub length_found : List ℕ → Found → ℕ
+length_found bytes f = length bytes - length f.rest
 
 -- what stands behind the opcode of an instruction of the row
 unfoldable pub tail_at : Head → Row → Option Found

@@ -3,9 +3,11 @@
 
 mod decoding;
 mod head;
+mod laws;
 mod tail;
 
 pub use decoding::{decode, one_spelling};
+pub use laws::read_is_spelling;
 
 #[cfg(test)]
 mod tests;

@@ -8,7 +8,7 @@ use Rattle.vw_state.specs.declared.state.State.{State}
 use Rattle.vw_state.specs.declared.tables.PointState.{PointState}
 use Rattle.vw_state.specs.State.{IsBelow, entry}
 use Rattle.vw_state.specs.Code.{code_at}
-use Rattle.vw_state.specs.Post.{edges_at}
+use Rattle.vw_state.specs.Post.{edges_at, Post}
 use Rattle.vw_state.specs.Solution.{IsLeast}
 use Rattle.vw_state.specs.Checks.{PassesGraph, StopsAt}
 use Rattle.vw_graph.specs.declared.ends.Rounds.TheVariants.{Stable, Stopped}
@@ -29,14 +29,16 @@ module _ (code : List ℕ) (table : List (Option State)) where
     lowest = λ other s e. first.lowest other s (sym (gathered table other) ∙ e);
   }
 
-module _ (image : Contents) (from size : ℕ) (code : List ℕ) (is : code ≡ code_at image from size) (bytes : IsBytes code)
+module _ (edges_are : (code : List ℕ) (at : ℕ) (state : State) → IsBytes code → Post code at state (edges_at code at state))
+    (edges_only : (code : List ℕ) (at : ℕ) (state : State) (edges : List (ℕ × State)) → IsBytes code → Post code at state edges → edges ≡ edges_at code at state)
+    (image : Contents) (from size : ℕ) (code : List ℕ) (is : code ≡ code_at image from size) (bytes : IsBytes code)
     (points : ℕ) (whole : points ≡ length code + 1) (edges : ℕ → State → List (ℕ × State)) (are : edges ≡ (λ at state. edges_at code at state))
     (table : List (Option State)) (least : solver.IsLeast IsBelow IsValid edges points 0 entry table) (states : List PointState) (gathers : states ≡ gather 0 table) where
   least_table : IsLeast (code_at image from size) states
   least_table =
       let solved = subst (λ (es : ℕ → State → List (ℕ × State)). solver.IsLeast IsBelow IsValid es points 0 entry table) are least in
       subst (λ (t : List PointState). IsLeast (code_at image from size) t) (sym gathers)
-      (subst (λ (c : List ℕ). IsLeast c (gather 0 table)) is (is_least code bytes points whole table solved))
+      (subst (λ (c : List ℕ). IsLeast c (gather 0 table)) is (is_least edges_are edges_only code bytes points whole table solved))
 
   pub stable : NoneFails code table → IsRounds image from size (Stable (record { entry = from; states = states }))
   stable none = record {

@@ -9,7 +9,6 @@ use Rattle.vw_state.specs.State.{IsBelow, entry}
 use Rattle.vw_state.specs.Post.{edges_at, Post}
 use Rattle.vw_state.specs.Tables.{state_of}
 use Rattle.vw_state.specs.Solution.{Lands, IsSolution, IsLower, IsLeast}
-use Rattle.vw_state.proofs.Begins.{edges_post, only_edges}
 use Rattle.vw_graph.specs.Solved.{gather}
 use Rattle.vw_graph.proofs.Gathered.{gathered, gather_rises}
 use Rattle.vw_graph.proofs.Spread.{spread, spread_length, spread_in, spread_within, at_most}
@@ -18,7 +17,9 @@ use Rattle.vw_graph.proofs.Spread.{spread, spread_length, spread_in, spread_with
 abbrev pub IsValid : State → Type 0
 IsValid state = Unit {0}
 
-module _ (code : List ℕ) (bytes : IsBytes code) (points : ℕ) (size : points ≡ length code + 1) where
+module _ (are : (code : List ℕ) (at : ℕ) (state : State) → IsBytes code → Post code at state (edges_at code at state))
+    (only : (code : List ℕ) (at : ℕ) (state : State) (edges : List (ℕ × State)) → IsBytes code → Post code at state edges → edges ≡ edges_at code at state)
+    (code : List ℕ) (bytes : IsBytes code) (points : ℕ) (size : points ≡ length code + 1) where
   abbrev EdgesOf : ℕ → State → List (ℕ × State)
   EdgesOf at state = edges_at code at state
 
@@ -38,7 +39,7 @@ module _ (code : List ℕ) (bytes : IsBytes code) (points : ℕ) (size : points 
 
     is_closed : (point : ℕ) (state : State) → state_at other_table point ≡ Some state → All {X = ℕ × State} (λ edge. IsCovered IsBelow other_table edge.0 edge.1) (edges_at code point state)
     is_closed point state e =
-        λ k d less. is_covered (slice_index_or (edges_at code point state) k d) (solution.closed point state (is_of point state e) (edges_at code point state) (edges_post code point bytes state) k d less)
+        λ k d less. is_covered (slice_index_or (edges_at code point state) k d) (solution.closed point state (is_of point state e) (edges_at code point state) (are code point state bytes) k d less)
 
     is_solution : solver.IsSolution IsBelow IsValid EdgesOf points 0 entry other_table
     is_solution = record {
@@ -56,7 +57,7 @@ module _ (code : List ℕ) (bytes : IsBytes code) (points : ℕ) (size : points 
 
     all_land : (at : ℕ) (state : State) → state_of (gather 0 table) at ≡ Some state → (edges : List (ℕ × State)) → Post code at state edges → All (Lands (gather 0 table)) edges
     all_land at state e edges post =
-        subst (λ (es : List (ℕ × State)). All (Lands (gather 0 table)) es) (sym (only_edges code at bytes state edges post))
+        subst (λ (es : List (ℕ × State)). All (Lands (gather 0 table)) es) (sym (only code at state edges bytes post))
         (λ k d less. lands (slice_index_or (edges_at code at state) k d) (least.solution.closed at state (sym (gathered table at) ∙ e) k d less))
 
     lower : (other : List PointState) → IsSolution code other → IsLower (gather 0 table) other

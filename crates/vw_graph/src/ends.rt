@@ -1,15 +1,21 @@
 use vw_state::FunctionTable;
 
-/// How the rounds over a function end.
+/// How the rounds over a function end. Points are offsets from its first byte, from 0 to its size. The rounds
+/// take an instruction other than NOP, MOV, UD2, RET, direct JMP and Jcc as one where control ends, since its
+/// meaning is not stated yet: of a function that has one at a point of the table they tell nothing.
 #[derive(Debug, Drop)]
 pub enum Rounds {
-    /// At each point of the table an instruction begins, and no direct jump or branch leaves the function.
+    /// Neither check 1 nor check 2 fails at a point of this table, the function's least one: at each an instruction
+    /// begins, and it is no direct jump or branch out of the function.
     Stable(FunctionTable),
-    /// At `at`, the lowest such point of the table, check 1 fails, since no instruction begins there, or check
-    /// 2, since a direct jump or branch leaves the function.
+    /// One of the two fails at some point of the function's least table.
     Stopped {
+        /// The function's least table.
         table: FunctionTable,
+        /// The lowest point of the table at which one of the two fails.
         at: u32,
+        /// The check that fails there: 1, code, where no instruction begins; 2, jump, where a direct jump or branch
+        /// out of the function begins.
         check: u8,
     },
 }

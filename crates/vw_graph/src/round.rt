@@ -13,7 +13,7 @@ use std::sync::ledger::Ledger;
 use vw_bits::OutOfMemory;
 use vw_layout::{Module, functions_are_code};
 use vw_solver::{Steps, solve};
-use vw_state::{FunctionTable, Site, entry_state};
+use vw_state::{FunctionTable, Site, edges_are_post, entry_state};
 
 /// The rounds over a function, given by its number from 0 by address: its least table, and where they stop.
 /// There is one round, over the direct edges. It counts a step for each evaluation of a point: at most one
@@ -48,6 +48,7 @@ fn round<L: Ledger>(alloc: Global, site: &Site, steps: &mut Steps<L>) -> Result<
     ensures ticks { steps.new ≤ steps.old + (site.now.size + 1) }
     ensures counts { steps.old ≤ steps.new }
 {
+    edges_are_post();
     let code = site.code();
     let points = code.len() as u32 + 1;
     let graph = Graph::of_site(site, points);

@@ -1,3 +1,3 @@
-pub mod Begins
+mod Begins
 mod Spellings
 pub mod Sites

@@ -8,18 +8,21 @@ use Rattle.vw_state.specs.Code.{BeginsAt, NothingAt}
 use Rattle.vw_state.specs.Post.{target, inside}
 use Rattle.vw_state.specs.Tables.{state_of}
 
--- a direct jump or branch, with `next` behind it, goes out of a function of `size` bytes
+-- A direct jump or branch, with `next` behind it, goes out of a function of `size` bytes. By the last case no other
+-- instruction does: neither those that go on to the next instruction or end control, nor one of which it is not
+-- stated yet where control goes. Of such an instruction this tells nothing.
 abbrev pub GoesOut : ℕ → ℕ → Insn → Type 0
 GoesOut size next (insn.Jump rel) = inside size (target next rel) ≡ None
 GoesOut size next (insn.Jcc cond rel) = inside size (target next rel) ≡ None
 GoesOut size next _ = ⊥
 
--- Check 1, code: nothing decodes in the bytes from the point to the function's end. So it is at a point above
--- the size.
+-- Check 1, code: nothing decodes in the bytes from the point to the function's end. No bytes are left from a point
+-- at or above the function's size on, so nothing decodes there either, and the check fails.
 abbrev pub LacksCode : List ℕ → ℕ → Type 0
 LacksCode code at = NothingAt code at
 
--- Check 2, direct flow: a direct jump or branch leaves the function.
+-- Check 2, jump: a direct jump or branch stands at the point, and leaves the function. An instruction of which it
+-- is not stated yet where control goes does not fail it.
 pub record LeavesFunction (code : List ℕ) (at : ℕ) : Type 0 where
   pub instruction : Insn
   pub len : ℕ

@@ -1,7 +1,9 @@
-ghost use Rattle.std.specs.Prelude.{◌≡◌, ◌∷◌, [], ◌++◌, IfSome, IfNone, OnOk, OnErr};
+ghost use Rattle.std.specs.Prelude.{◌≡◌, ◌∷◌, [], ◌++◌, ◌↔◌, IsTrue, IfSome, IfNone, OnOk, OnErr};
+ghost use Rattle.vw_state.specs.Checks.{GoesOut};
 ghost use Rattle.vw_state.specs.Code.{code_at, NothingAt, StandsAlone};
 ghost use Rattle.vw_state.specs.Post.{target, inside, edge_to, edges_of, edges_at, Post};
 
+use crate::laws::edges_are_post;
 use crate::{Site, State};
 use std::alloc::Global;
 use vw_bits::OutOfMemory;
@@ -13,9 +15,11 @@ use vw_solver::Edges;
 /// Appends to `out` the edges that leave a point of a function with a state. NOP and MOV go on to the next
 /// instruction, also where this is the function's end. A direct jump goes to its target, and a direct branch
 /// to its target and then to the next instruction; a target outside the function has no edge. UD2 and RET
-/// have no edge, nor has a point where nothing decodes in the bytes up to the function's end. The other
-/// instructions have none yet. A site whose bytes are not in the file part of one segment has no code.
-/// OutOfMemory where the allocator refuses a request; then `out` is as it was.
+/// have no edge, nor has a point where nothing decodes in the bytes up to the function's end. Where any other
+/// instruction stands at a point, where control goes is not stated yet, and the point has no edges: they tell
+/// nothing of such a function, and a caller has to ask first that none is there. A site whose bytes are not
+/// in the file part of one segment has no code. OutOfMemory where the allocator refuses a request; then `out` is
+/// as it was.
 pub fn post(
     _alloc: Global,
     site: &Site,
@@ -27,6 +31,7 @@ pub fn post(
     ensures post { OnOk result (Post (code_at site.now.image.now site.now.entry site.now.size) at state.now (edges_at (code_at site.now.image.now site.now.entry site.now.size) at state.now)) }
     ensures err { OnErr result (out.new ≡ out.old) }
 {
+    edges_are_post();
     let code = site.code();
     match instruction_at(code, at) {
         Some((insn, len)) => append_edges(code.len() as u32, at + len, &insn, state, out),
@@ -57,6 +62,18 @@ pub fn direct_target(size: u32, next: u32, rel: i32) -> Option<u32>
         Some(to as u32)
     } else {
         None
+    }
+}
+
+/// Whether an instruction is a direct jump or branch out of a function of `size` bytes: its target, which counts
+/// from `next`, the point behind the instruction, is below 0 or from `size` on. Each other instruction answers
+/// false, also one of which it is not stated yet where control goes. Takes no memory.
+pub fn leaves_function(size: u32, next: u32, insn: &Insn) -> bool
+    ensures { IsTrue result ↔ GoesOut size next insn.now }
+{
+    match insn {
+        Insn::Jump { rel } | Insn::Jcc { rel, .. } => direct_target(size, next, *rel).is_none(),
+        _ => false,
     }
 }
 

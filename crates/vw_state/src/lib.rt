@@ -8,7 +8,7 @@ mod site;
 mod state;
 mod tables;
 
-pub use edges::{direct_target, instruction_at, post};
+pub use edges::{direct_target, instruction_at, leaves_function, post};
 pub use laws::edges_are_post;
 pub use site::Site;
 pub use state::{Bounds, State, entry_state};

@@ -1,6 +1,5 @@
 pub mod SafeLemmas
 pub mod Points
 pub mod Modules
-pub mod Counts
 pub mod Steps
 pub mod Functions

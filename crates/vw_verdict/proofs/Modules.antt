@@ -1,6 +1,6 @@
 -- The verdict function by function.
-use Rattle.std.proofs.Common.{◌≡◌, ◌⊎◌, inl, inr, ℕ, zero, suc, ◌+◌, ◌≤◌, ◌<◌, ◌^◌, Bool, true, false, List, [], ◌∷◌, ◌++◌, length, take, map, get_or, Option, Some, None, refl, sym, ◌∙◌, ap, subst, arith}
-use Rattle.std.specs.Prelude.{nat_lt, Contains}
+use Rattle.std.proofs.Common.{◌≡◌, ◌⊎◌, inl, inr, ℕ, ◌+◌, ◌≤◌, ◌<◌, Bool, true, false, List, [], ◌∷◌, ◌++◌, length, take, get_or, Some, refl, sym, ◌∙◌, ap, subst, arith}
+use Rattle.std.specs.Prelude.{nat_lt}
 use Rattle.std.specs.List.{slice_get}
 use Rattle.std.proofs.lemmas.Bool.Decides.{nat_tests}
 use Rattle.std.proofs.lemmas.List.{take_more, take_all}
@@ -16,7 +16,7 @@ use Rattle.vw_state.specs.declared.tables.Verdict.TheVariants as verdict
 use Rattle.vw_verdict.specs.declared.function.Finding.TheVariants as finding
 use Rattle.vw_verdict.specs.Safe.{IsSafeTable, HasSafeTable}
 use Rattle.vw_verdict.specs.Places.{IsPlaceIn}
-use Rattle.vw_verdict.specs.Verdicts.{code_in, IsNumbered, TablesOf, EachHasSafeTable, IsPlaceOf, Judged}
+use Rattle.vw_verdict.specs.Verdicts.{code_in, IsNumbered, TablesOf, Judged}
 use Rattle.vw_verdict.specs.Findings.{Found}
 use Rattle.vw_verdict.proofs.SafeLemmas.{IsMonotone, no_place}
 

@@ -1,11 +1,10 @@
 -- Least tables, safe tables and places.
-use Rattle.std.proofs.Common.{◌≡◌, ℕ, List, Some}
+use Rattle.std.proofs.Common.{ℕ, List}
 use Rattle.vw_state.specs.declared.state.State.{State}
 use Rattle.vw_state.specs.declared.tables.PointState.{PointState}
 use Rattle.vw_state.specs.State.{IsBelow}
-use Rattle.vw_state.specs.Tables.{state_of}
-use Rattle.vw_state.specs.Solution.{IsSolution, IsLeast}
-use Rattle.vw_state.specs.Checks.{FailsGraph, StopsAt}
+use Rattle.vw_state.specs.Solution.{IsLeast}
+use Rattle.vw_state.specs.Checks.{FailsGraph}
 use Rattle.vw_state.specs.Checks.{lacks_code as no_code, leaves as goes_out}
 use Rattle.vw_checks.specs.Checks.{Fails, Passes, lacks_code, leaves}
 use Rattle.vw_verdict.specs.Safe.{NoneFails, IsSafeTable}

@@ -7,7 +7,7 @@ use std::alloc::Global;
 use std::sync::ledger::Ledger;
 use vw_bits::{List, OutOfMemory};
 use vw_checks::lower_states_pass;
-use vw_layout::{Module, functions_are_code};
+use vw_layout::{Module, functions_ascend};
 use vw_solver::Steps;
 use vw_state::{Tables, Verdict};
 
@@ -17,6 +17,12 @@ use vw_state::{Tables, Verdict};
 /// neither fails, the lowest at which another check fails, with the lowest number there. It counts a step for
 /// each evaluation of a point: for each function at most one more than its size, whatever the answer.
 /// OutOfMemory where the allocator refuses a request; then only the steps have changed.
+///
+/// The verdict speaks only of modules in which NOP, MOV, UD2, RET, direct JMP and Jcc stand at the points of the
+/// functions' least tables and nothing else. The meaning of the other instructions is not stated yet: each of them has
+/// no edges and fails no check, so a function that uses one can come out safe. Of a MOV only check 4 speaks, and it
+/// knows those of 32 bits between EAX and memory at RDI without an index alone. A caller has to ask first that no
+/// other instruction stands there. The program does so: of such a file it answers that it does not judge it.
 pub fn judge<L: Ledger>(
     alloc: Global,
     loaded: &Module,
@@ -27,7 +33,7 @@ pub fn judge<L: Ledger>(
     ensures ticks { steps.new ≤ steps.old + sum_by (λ f. f.size + 1) loaded.now.functions }
     ensures counts { steps.old ≤ steps.new }
 {
-    functions_are_code();
+    functions_ascend();
     lower_states_pass();
     let functions = loaded.functions.as_slice();
     let mut tables = List::new(alloc);

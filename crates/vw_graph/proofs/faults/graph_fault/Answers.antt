@@ -11,10 +11,10 @@ pub overflow_add-at : goal.overflow_add-at
 overflow_add-at c = omega (arith, c.requires, c.in-Some.ensures.found.begins.inside)
 
 pub returns-in-Some-clause-some : goal.returns-in-Some-clause-some
-returns-in-Some-clause-some c = goes c.in-Some.ensures.found (c.goes_out.ensures.0 c.if-goes_out.true)
+returns-in-Some-clause-some c = goes c.in-Some.ensures.found (c.leaves_function.ensures.0 c.if-leaves_function.true)
 
 pub returns-in-Some-2-clause-none : goal.returns-in-Some-2-clause-none
-returns-in-Some-2-clause-none c = passes c.in-Some.ensures.found (λ out. absurd (false≢true (sym c.if-goes_out.false ∙ c.goes_out.ensures.1 out)))
+returns-in-Some-2-clause-none c = passes c.in-Some.ensures.found (λ out. absurd (false≢true (sym c.if-leaves_function.false ∙ c.leaves_function.ensures.1 out)))
 
 pub returns-in-None-clause-some : goal.returns-in-None-clause-some
 returns-in-None-clause-some c = lacks_code c.in-None.ensures.none

@@ -2,7 +2,11 @@ use Rattle.vw_state.proofs.Begins.{edges_post, only_edges}
 use Rattle.vw_state.proofs.laws.edges_are_post.Goals as goal
 
 pub returns-clause-are : goal.returns-clause-are
-returns-clause-are c = λ code at state bytes. edges_post code at bytes state
+returns-clause-are c =
+    let law = c.read_is_spelling.ensures in
+    λ code at state bytes. edges_post law.none law.found law.size law.only code at bytes state
 
 pub returns-clause-only : goal.returns-clause-only
-returns-clause-only c = λ code at state edges bytes post. only_edges code at bytes state edges post
+returns-clause-only c =
+    let law = c.read_is_spelling.ensures in
+    λ code at state edges bytes post. only_edges law.none law.found law.size law.only code at bytes state edges post

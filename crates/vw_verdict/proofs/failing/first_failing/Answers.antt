@@ -1,6 +1,5 @@
 use Rattle.std.proofs.Common.{length}
 use Rattle.std.proofs.lemmas.Option.{slice_get-get_or}
-use Rattle.vw_state.specs.declared.tables.PointState.{PointState}
 use Rattle.vw_state.specs.Code.{code_at}
 use Rattle.vw_verdict.proofs.Points.{passes_none, passes_more, passes_all, fails_first, blank, point_at}
 use Rattle.vw_verdict.proofs.failing.first_failing.Goals as goal

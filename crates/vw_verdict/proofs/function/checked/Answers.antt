@@ -1,5 +1,4 @@
 use Rattle.std.proofs.Common.{sym, subst}
-use Rattle.vw_layout.specs.declared.functions.Function.{Function}
 use Rattle.vw_verdict.specs.declared.function.Finding.{Finding}
 use Rattle.vw_verdict.specs.Findings.{Found}
 use Rattle.vw_verdict.proofs.Functions.{same_function, found_failing, found_passing}

@@ -1,16 +1,17 @@
-use Rattle.std.proofs.Common.{◌≡◌, ℕ, ◌+◌, ◌<◌, ◌≤◌, ◌^◌, List, length, ◌++◌, ◌∷◌, [], sym, subst, arith}
+use Rattle.std.proofs.Common.{◌≡◌, ◌+◌, ◌<◌, ◌≤◌, List, length, ◌++◌, ◌∷◌, [], sym, ap, subst, arith}
+use Rattle.vw_layout.specs.Layout.{declared_functions}
 use Rattle.vw_state.specs.declared.tables.FunctionTable.{FunctionTable}
 use Rattle.vw_verdict.proofs.Modules.{numbered_at, passed_more, judged_safe, judged_unsafe}
-use Rattle.vw_verdict.proofs.Counts.{number_fits}
 use Rattle.vw_verdict.proofs.Steps.{Going, going_on, ticks_within}
 use Rattle.vw_verdict.proofs.module.judge.Goals as goal
 
 pub overflow_cast-number : goal.overflow_cast-number
 overflow_cast-number g c =
     let m = c.args.loaded.now in
-    let f = numbered_at m.functions c.loop-number.number (rw c.as_slice-functions.ensures at c.loop-number-test.true) in
-    let low : c.loop-number.number < 2 ^ 32 = number_fits m.image.bytes m.functions c.loop-number.number f.0 c.requires.rules c.requires.functions c.functions_are_code.ensures f.1 in
-    omega (arith, low)
+    let within : c.loop-number.number < length m.functions = rw c.as_slice-functions.ensures at c.loop-number-test.true in
+    let count : length m.functions ≡ length (declared_functions m.image.bytes) = ap length c.requires.functions in
+    let few : length (declared_functions m.image.bytes) ≤ 65536 = c.functions_ascend.ensures.few m.image.bytes c.requires.rules in
+    omega (arith, within, count, few)
 
 pub returns-in_err-table-clause-ticks : goal.returns-in_err-table-clause-ticks
 returns-in_err-table-clause-ticks g c =

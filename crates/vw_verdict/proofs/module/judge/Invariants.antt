@@ -1,8 +1,4 @@
-use Rattle.std.proofs.Common.{ℕ, ◌+◌, ◌-◌, ◌≤◌, length, take, sum_by}
-use Rattle.vw_layout.specs.declared.functions.Function.{Function}
-use Rattle.vw_layout.specs.declared.layout.Module.{Module}
-use Rattle.vw_state.specs.declared.tables.FunctionTable.{FunctionTable}
-use Rattle.std.proofs.Common.{List}
+use Rattle.std.proofs.Common.{◌-◌, length}
 use Rattle.vw_verdict.proofs.Steps.{Going}
 use Rattle.vw_verdict.proofs.module.judge.Given as goal
 
