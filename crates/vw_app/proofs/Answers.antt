@@ -1,27 +1,25 @@
 -- From the parts of the program to the answer.
-use Rattle.std.proofs.Common.{◌≡◌, ◌≢◌, ℕ, ◌+◌, ◌*◌, ◌^◌, ◌≤◌, ◌<◌, Bool, true, false, nat_le, nat_lt, Result, Ok, Err, IfOk, List, [], ◌∷◌, ◌++◌, length, get_or, Option, Some, None, IfSome, replicate, refl, sym, ◌∙◌, ap, subst, arith, lit<}
-use Rattle.std.specs.List.{slice_get}
-use Rattle.std.specs.Option.{option_or}
+use Rattle.std.proofs.Common.{◌≡◌, ◌≢◌, ℕ, ◌^◌, ◌<◌, false, nat_le, Result, Ok, Err, IfOk, List, [], ◌∷◌, length, get_or, Option, Some, None, IfSome, replicate, refl, sym, ◌∙◌, ap, subst, arith, lit<}
 use Rattle.std.proofs.lemmas.Bool.Decides.{nat_tests}
 use Rattle.std.proofs.Math.ListN.{length-replicate}
-use Rattle.vw_bits.specs.Rules.{lowest_broken}
 use Rattle.vw_bits.specs.HeaderRules.{header_fault, header_rules}
-use Rattle.vw_bits.proofs.RuleLemmas.{lowest-here}
 use Rattle.vw_bits.specs.declared.memory.OutOfMemory.{OutOfMemory}
-use Rattle.vw_dynamic.specs.Dynamic.{dynamic_fault, file_imports}
+use Rattle.vw_dynamic.specs.Dynamic.{file_imports}
 use Rattle.vw_image.specs.Image.{Contents, image_of}
 use Rattle.vw_layout.specs.declared.functions.Function.{Function}
 use Rattle.vw_layout.specs.declared.layout.Module.{Module}
-use Rattle.vw_layout.specs.Layout.{module_fault, layout_fault, declared_functions, declared_tables, IsModuleOf}
+use Rattle.vw_layout.specs.Layout.{module_fault, declared_functions, declared_tables, IsModuleOf}
 use Rattle.vw_app.specs.declared.status.Status.{Status}
 use Rattle.vw_app.specs.declared.request.Command.{Command}
 use Rattle.vw_app.specs.declared.request.Command.TheVariants as command
 use Rattle.vw_app.specs.Lines.{malformed_line, unsafe_line, info_text}
-use Rattle.vw_app.specs.Answer.{Reply, answered, Answered, malformed, done, Judged, unbuilt, safe, unsafe, Shown, Asks, AreTold, Done, word}
-use Rattle.vw_app.specs.Module.{code_of, module_of}
-use Rattle.vw_app.specs.Judged.{IsNumbered, EachFunction, FirstFailing}
-use Rattle.vw_app.specs.Walk.{LacksCode, IsBelowBase, IsLowest, IsBuilt, IsSafe, Fails, lacks_code, below_base}
-use Rattle.vw_app.specs.Sandboxed.{IsSandboxed, IsSandboxedFile}
+use Rattle.vw_app.specs.Answer.{Reply, answered, Answered, malformed, done, Judged, uncovered, safe, unsafe, Asks, AreTold, Done, word}
+use Rattle.vw_app.specs.Module.{declared_module}
+use Rattle.vw_app.specs.Covered.{IsCoveredModule, HasAnother}
+use Rattle.vw_app.specs.Sandboxed.{IsSandboxedFile}
+use Rattle.vw_app.proofs.Coverage.{covered_table}
+use Rattle.vw_verdict.specs.Verdicts.{code_in}
+use Rattle.vw_app.proofs.Places.{one_place}
 
 module _ (words : List (List ℕ)) (told : List ℕ → Option (List ℕ)) (fault : List ℕ → Type 0) (Wrote : List ℕ → Type 0) where
   -- the answer that was written whole
@@ -100,51 +98,29 @@ unsafe_reply result status other written zero =
 apart : {A : Type 0} {x : A} → None ≡ Some x → ⊥
 apart e = absurd cc
 
-by_order : (a b : ℕ) → (a < b → ⊥) → (b < a → ⊥) → a ≡ b
-by_order a b not_less not_greater = equal (nat_lt a b) refl (nat_lt b a) refl
-  where
-    equal : (less : Bool) → nat_lt a b ≡ less → (greater : Bool) → nat_lt b a ≡ greater → a ≡ b
-    equal true is greater also = absurd (not_less (grind (arith, nat_tests, is)))
-    equal false is true also = absurd (not_greater (grind (arith, nat_tests, also)))
-    equal false is false also = grind (arith, nat_tests, is, also)
-
--- two findings of one walk agree
-lowest_once : {Holds : ℕ → Type 0} {a b : ℕ} → IsLowest Holds a → IsLowest Holds b → a ≡ b
-lowest_once {Holds} {a} {b} one two = let p = one.least b two.holds in let q = two.least a one.holds in omega arith
-
-fails_once : {code : List ℕ} {at check at' check' : ℕ} → Fails code at check → Fails code at' check' → (at ≡ at') × (check ≡ check')
-fails_once (lacks_code point lowest) (lacks_code point' lowest') = (lowest_once lowest lowest', refl)
-fails_once (lacks_code point lowest) (below_base point' none' lowest') = absurd (none' point lowest.holds)
-fails_once (below_base point none lowest) (lacks_code point' lowest') = absurd (none point' lowest'.holds)
-fails_once (below_base point none lowest) (below_base point' none' lowest') = (lowest_once lowest lowest', refl)
-
-safe_or_fails : {code : List ℕ} {at check : ℕ} → IsSafe code → Fails code at check → ⊥
-safe_or_fails found (lacks_code point lowest) =
-    let stands = found.stands point lowest.holds.reached in lowest.holds.nothing stands.0 stands.1 stands.2
-safe_or_fails found (below_base point none lowest) = found.above point lowest.holds
-
 same_some : {A : Type 0} {x y : A} → Some x ≡ Some y → x ≡ y
 same_some e = cc
 
--- two first failures of one module agree
-one_failure : {file : List ℕ} {number other : ℕ} {f g : Function} {at check at' check' : ℕ} → FirstFailing file number f at check → FirstFailing file other g at' check' → number ≡ other
-one_failure {file} {number} {other} {f} {g} one two =
-    by_order number other (λ less. safe_or_fails (two.before number f less one.is) one.fails) (λ less. safe_or_fails (one.before other g less two.is) two.fails)
+-- some function holds another instruction, or none does
+covered_or_not : {m : Module} → HasAnother m → IsCoveredModule m → ⊥
+covered_or_not {m} has covered =
+    let meets = has.meets in
+    let holds = meets.holds in
+    let table = covered_table (code_in m.image has.function) (covered has.number has.function has.is) meets.table meets.least in
+    holds.another (table meets.at meets.state meets.there holds.instruction holds.len holds.stands)
 
-pub judged_once : {file : List ℕ} {status other : ℕ} {text other_text : List ℕ} → Judged file status text → Judged file other other_text → (status ≡ other) × (text ≡ other_text)
-judged_once (unbuilt none) (unbuilt none') = (refl, refl)
-judged_once (unbuilt none) (safe built is_safe) = absurd (none built)
-judged_once (unbuilt none) (unsafe number f at check built fails) = absurd (none built)
-judged_once (safe built is_safe) (unbuilt none) = absurd (none built)
-judged_once (safe built is_safe) (safe built' is_safe') = (refl, refl)
-judged_once (safe built is_safe) (unsafe number f at check built' fails) = absurd (safe_or_fails (is_safe number f fails.is) fails.fails)
-judged_once (unsafe number f at check built fails) (unbuilt none) = absurd (none built)
-judged_once (unsafe number f at check built fails) (safe built' is_safe) = absurd (safe_or_fails (is_safe number f fails.is) fails.fails)
-judged_once {file} (unsafe number f at check built fails) (unsafe number' f' at' check' built' fails') =
-    let same : number ≡ number' = one_failure fails fails' in
-    let f_is : f ≡ f' = same_some (sym fails.is ∙ (ap (λ (k : ℕ). slice_get (declared_functions file) k) same ∙ fails'.is)) in
-    let once = fails_once fails.fails (subst (λ (g : Function). Fails (code_of file g) at' check') (sym f_is) fails'.fails) in
-    (refl, ap (λ (g : Function). unsafe_line g.name at check) f_is ∙ (ap (λ (a : ℕ). unsafe_line f'.name a check) once.0 ∙ ap (λ (c : ℕ). unsafe_line f'.name at' c) once.1))
+pub judged_once : {m : Module} {status other : ℕ} {text other_text : List ℕ} → Judged m status text → Judged m other other_text → (status ≡ other) × (text ≡ other_text)
+judged_once (uncovered has) (uncovered has') = (refl, refl)
+judged_once (uncovered has) (safe covered each) = absurd (covered_or_not has covered)
+judged_once (uncovered has) (unsafe place fails covered not_each) = absurd (covered_or_not has covered)
+judged_once (safe covered each) (uncovered has) = absurd (covered_or_not has covered)
+judged_once (safe covered each) (safe covered' each') = (refl, refl)
+judged_once (safe covered each) (unsafe place fails covered' not_each) = absurd (not_each each)
+judged_once (unsafe place fails covered not_each) (uncovered has) = absurd (covered_or_not has covered)
+judged_once (unsafe place fails covered not_each) (safe covered' each) = absurd (not_each each)
+judged_once (unsafe place fails covered not_each) (unsafe place' fails' covered' not_each') =
+    let once = one_place fails fails' in
+    (refl, ap (λ (f : Function). unsafe_line f.name place.at place.check) once.0 ∙ (ap (λ (a : ℕ). unsafe_line fails'.function.name a place.check) once.1 ∙ ap (λ (c : ℕ). unsafe_line fails'.function.name place'.at c) once.2))
 
 done_once : (asked : Command) (file : List ℕ) {status other : ℕ} {text other_text : List ℕ} → Done asked file status text → Done asked file other other_text → (status ≡ other) × (text ≡ other_text)
 done_once command.Verify file one two = judged_once one two
@@ -168,19 +144,23 @@ bytes_of : (file : List ℕ) (m : Module) → IsModuleOf file m → m.image.byte
 unfolding image_of
 bytes_of file m of = ap (λ (i : Contents). i.bytes) of.image
 
+-- the module that a file gives
+module_is : (file : List ℕ) (m : Module) → IsModuleOf file m → m ≡ declared_module file
+module_is file m of = rw (sym of.functions, sym of.tables, sym of.image) refl
+
 abbrev Answer : Type 0
 Answer = Result (Status × List ℕ) OutOfMemory
 
-pub verified : (file : List ℕ) (m : Module) (asked : Command) (result : Answer) → asked ≡ command.Verify → IsModuleOf file m → IfOk result (λ reply. Judged m.image.bytes reply.0.0 reply.1) → IfOk result (λ reply. Answered asked file reply.0.0 reply.1)
+pub verified : (file : List ℕ) (m : Module) (asked : Command) (result : Answer) → asked ≡ command.Verify → IsModuleOf file m → IfOk result (λ reply. Judged m reply.0.0 reply.1) → IfOk result (λ reply. Answered asked file reply.0.0 reply.1)
 verified file m asked result is of judged =
     IfOk-map result
     (λ reply verdict. subst (λ (c : Command). Answered c file reply.0.0 reply.1) (sym is)
-    (done reply.0.0 reply.1 of.rules (subst (λ (bytes : List ℕ). Judged bytes reply.0.0 reply.1) (bytes_of file m of) verdict)))
+    (done reply.0.0 reply.1 of.rules (subst (λ (n : Module). Judged n reply.0.0 reply.1) (module_is file m of) verdict)))
     judged
 
-pub verified_safe : (file : List ℕ) (m : Module) (asked : Command) (result : Answer) → IsModuleOf file m → IfOk result (λ reply. reply.0.0 ≡ 0 → IsSandboxed (module_of m.image.bytes)) → IfOk result (λ reply. asked ≡ command.Verify → reply.0.0 ≡ 0 → IsSandboxedFile file)
+pub verified_safe : (file : List ℕ) (m : Module) (asked : Command) (result : Answer) → IsModuleOf file m → IfOk result (λ reply. reply.0.0 ≡ 0 → IsSandboxedFile m.image.bytes) → IfOk result (λ reply. asked ≡ command.Verify → reply.0.0 ≡ 0 → IsSandboxedFile file)
 verified_safe file m asked result of stays_safe =
-    IfOk-map result (λ reply stays verifies zero. (of.rules, subst (λ (bytes : List ℕ). IsSandboxed (module_of bytes)) (bytes_of file m of) (stays zero))) stays_safe
+    IfOk-map result (λ reply stays verifies zero. subst IsSandboxedFile (bytes_of file m of) (stays zero)) stays_safe
 
 pub informed : (file : List ℕ) (m : Module) (asked : Command) (text : List ℕ) → asked ≡ command.Info → IsModuleOf file m
     → text ≡ info_text (declared_functions m.image.bytes) (declared_tables m.image.bytes) (file_imports m.image.bytes) → Answered asked file 0 text

@@ -5,8 +5,8 @@ use Rattle.vw_bits.specs.Fields.{load}
 use Rattle.vw_insn.specs.Words.{word_of}
 use Rattle.std.specs.Prelude.{Contains}
 use Rattle.std.specs.List.{AllByRecursion}
-use Rattle.vw_app.specs.Walk.{IsSigned32}
-use Rattle.vw_app.specs.World.{Range, World, IsIn, IsLaidOut, loaded_range}
+use Rattle.vw_app.specs.Covered.{IsSigned32}
+use Rattle.vw_app.specs.World.{Range, World, IsIn, IsBelowTop, IsLaidOut, loaded_range}
 use Rattle.vw_app.specs.Machine.{Bytes}
 
 -- what holds of all items of a list holds of each
@@ -38,6 +38,12 @@ module _ {image : List Range} {imports : ℕ} {w : World} (laid : IsLaidOut imag
   host_elsewhere part of_image a low high is_host =
       let outside = laid.hosts_outside.0.1 in
       all_of (λ (p : Range). ¬ IsIn w.host_return (loaded_range w p)) image outside part of_image (omega arith, omega arith)
+
+  -- an address of a part of the image is below the top
+  pub image_low : (part : Range) → Contains image part → (a : ℕ) → w.load + part.from ≤ a → a < w.load + part.to → a < 2 ^ 47
+  image_low part of_image a low high =
+      let below = all_of (λ (p : Range). IsBelowTop (loaded_range w p)) image laid.image_ends part of_image in
+      below a (omega arith, omega arith)
 
 -- an access at the heap's base plus a displacement that is at least 0
 pub heap_address : (heap r : ℕ) (disp : ℤ) → r ≡ heap → IsSigned32 disp → (disp <ℤ pos 0 → ⊥) → heap + 2 ^ 33 ≤ 2 ^ 47 → (heap ≤ (r + word_of disp) % 2 ^ 64) × ((r + word_of disp) % 2 ^ 64 + 4 ≤ heap + 2 ^ 33)

@@ -1,5 +1,5 @@
 -- Facts about the definitions.
-use Rattle.std.proofs.Common.{◌≡◌, ◌≢◌, ◌⊎◌, inl, inr, ℕ, zero, suc, ◌+◌, ◌-◌, ◌*◌, ◌%◌, ◌^◌, ◌≤◌, ◌<◌, ◌==◌, Bool, true, false, if◌then◌else◌, List, [], ◌∷◌, length, get_or, take, map, ◌++◌, refl, sym, ◌∙◌, ap, arith, lit<, lit≤}
+use Rattle.std.proofs.Common.{◌≡◌, ◌≢◌, ◌⊎◌, inl, inr, ℕ, zero, suc, ◌+◌, ◌-◌, ◌*◌, ◌^◌, ◌≤◌, ◌<◌, ◌==◌, Bool, true, false, if◌then◌else◌, List, [], ◌∷◌, length, get_or, map, ◌++◌, refl, sym, ◌∙◌, ap, arith, lit<, lit≤}
 use Rattle.std.specs.Prelude.{nat_le, nat_lt, ◌&&◌, ◌||◌, Contains, AllPairs}
 use Rattle.std.specs.List.{AllByRecursion, range_with_len}
 use Rattle.std.proofs.lemmas.Bool.Decides.{nat_tests}
@@ -12,7 +12,7 @@ use Rattle.vw_app.specs.Module.{Module, bytes_from}
 use Rattle.vw_app.specs.Machine.{Activation, State, Choice, Code, StandsAt, does_trap}
 use Rattle.vw_app.specs.Permitted.{Reads, Writes, MayDo, MayRead, MayWrite}
 use Rattle.vw_app.specs.Sandboxed.{IsInitial}
-use Rattle.vw_app.specs.Laws.{IsFramed, IsLimited}
+use Rattle.vw_app.specs.Laws.{IsFramed}
 use Rattle.vw_app.proofs.Instances.{all_of, heap_ends, heap_or_stack}
 
 by_order : (a b : ℕ) (is : Bool) → nat_le a b ≡ is → (a ≤ b) ⊎ (b < a)
@@ -154,6 +154,11 @@ hosts_distinct count (suc i) (suc j) d less inside same =
     let first = host_at 0 count i d (omega (arith, less, inside, length-hosts 0 count)) in
     let second = host_at 0 count j d (omega (arith, inside, length-hosts 0 count)) in
     omega (arith, less, same, first, second)
+
+-- what the rules give of a module: its image ends at or before 2^31, and it has at most 65,536 imports
+pub record IsLimited (m : Module) : Type 0 where
+  pub ends : AllByRecursion (λ part. part.to ≤ 2 ^ 31) m.image
+  pub imports : m.imports ≤ 65536
 
 laid_out : (m : Module) → IsLimited m → IsLaidOut m.image m.imports (instance m.imports)
 unfolding instance hosts

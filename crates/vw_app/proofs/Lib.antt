@@ -1,10 +1,13 @@
 pub mod Pieces
 pub mod Spellings
-pub mod Walks
 pub mod Instances
 pub mod Runs
 pub mod Modules
-pub mod Verdicts
+pub mod Coverage
+pub mod Places
+pub mod Told
+pub mod Names
 pub mod Answers
 pub mod LawLemmas
+pub mod Limits
 pub mod RoundTrips

@@ -1,11 +1,10 @@
 -- From the rules of a module to the code that its functions hold in every instance.
-use Rattle.std.proofs.Common.{◌≡◌, ℕ, zero, suc, ◌+◌, ◌-◌, ◌≤◌, ◌<◌, ◌&&◌, ◌||◌, Bool, true, false, List, [], ◌∷◌, length, get_or, map, take, drop, Option, Some, None, unwrap_or, option_map, slice_index, refl, sym, ◌∙◌, ap, subst, arith}
+use Rattle.std.proofs.Common.{◌≡◌, ℕ, zero, suc, ◌+◌, ◌-◌, ◌≤◌, ◌<◌, ◌&&◌, ◌||◌, Bool, true, false, List, [], ◌∷◌, length, get_or, map, take, drop, Option, Some, None, slice_index, refl, sym, ◌∙◌, ap, subst, arith, lit<}
 use Rattle.std.specs.Prelude.{Contains}
-use Rattle.std.specs.List.{find, list_any, slice_get}
+use Rattle.std.specs.List.{find, list_any}
 use Rattle.std.specs.Option.{option_or}
 use Rattle.std.proofs.lemmas.Bool.{false≢true}
 use Rattle.std.proofs.lemmas.Bool.Decides.{nat_tests}
-use Rattle.std.proofs.lemmas.List.{length-drop, length-take-le}
 use Rattle.vw_bits.specs.Headers.{segments_of, is_executable}
 use Rattle.vw_bits.specs.HeaderRules.{header_fault}
 use Rattle.vw_bits.specs.Places.{is_among, in_file_part, in_memory, file_offset}
@@ -15,13 +14,20 @@ use Rattle.vw_image.specs.Image.{Contents, IsImage, image_of, memory_byte, image
 use Rattle.vw_image.specs.Words.{bytes_at}
 use Rattle.vw_image.specs.Stubs.{in_executable}
 use Rattle.vw_image.specs.Bounds.{IsBounded, AreBounded}
+use Rattle.vw_rows.specs.Numbers.{IsBytes}
 use Rattle.vw_layout.specs.declared.functions.Function.{Function}
 use Rattle.vw_layout.specs.Layout.{module_fault, layout_fault, IsModule, declared_functions}
 use Rattle.vw_layout.specs.Laws.{IsCode}
-use Rattle.vw_app.specs.World.{World, Range}
-use Rattle.vw_app.specs.Module.{module_of, code_of, segment_range}
-use Rattle.vw_app.specs.Judged.{EachFunction}
-use Rattle.vw_app.specs.Walk.{IsBuilt, IsSafe}
+use Rattle.vw_app.specs.World.{World}
+use Rattle.vw_state.specs.Code.{code_at}
+use Rattle.vw_state.specs.Post.{Post, edges_at}
+use Rattle.vw_state.specs.declared.state.State.{State}
+use Rattle.vw_state.specs.declared.tables.FunctionTable.{FunctionTable}
+use Rattle.vw_state.specs.declared.tables.Tables.{Tables}
+use Rattle.vw_verdict.specs.Safe.{IsSafeTable}
+use Rattle.vw_verdict.specs.Verdicts.{TablesOf, AreSafe, code_in}
+use Rattle.vw_app.specs.Module.{module_of, declared_module, segment_range}
+use Rattle.vw_app.specs.Covered.{IsCoveredTable}
 use Rattle.vw_app.specs.Sandboxed.{IsSandboxed}
 use Rattle.vw_app.proofs.Instances.{all_of}
 use Rattle.vw_app.proofs.Runs.{HoldsCode, sandboxed}
@@ -32,12 +38,14 @@ pub record Laws : Type 0 where
   pub settled : (image : Contents) → IsImage image → (a n : ℕ) → in_executable image.segments a n ≡ true → (base : ℕ) (hosts : ℕ → ℕ) (b : ℕ) → a ≤ b → b < a + n → image_byte image base hosts b ≡ memory_byte image.bytes image.segments b
   pub lent : (image : Contents) → IsImage image → (a n : ℕ) (bytes : List ℕ) → bytes_at image a n ≡ Some bytes → (k : ℕ) → k < n → slice_index bytes k ≡ memory_byte image.bytes image.segments (a + k)
   pub bounded : (bytes : List ℕ) → header_fault bytes ≡ None → AreBounded (length bytes) (segments_of bytes)
+  pub sized : (file : List ℕ) (f : Function) → IsModule file → Contains (declared_functions file) f → length (code_at (image_of file) f.entry f.size) ≡ f.size
+  pub posts : (code : List ℕ) (at : ℕ) (known : State) → IsBytes code → Post code at known (edges_at code at known)
 
 both_none : {A : Type 0} (a b : Option A) → option_or a b ≡ None → (a ≡ None) × (b ≡ None)
 both_none None b none = (refl, none)
 both_none (Some x) b none = cc
 
-headers_hold : (file : List ℕ) → IsModule file → (header_fault file ≡ None) × (dynamic_fault file ≡ None)
+pub headers_hold : (file : List ℕ) → IsModule file → (header_fault file ≡ None) × (dynamic_fault file ≡ None)
 unfolding module_fault
 headers_hold file is =
     let first = both_none (header_fault file) (option_or (dynamic_fault file) (layout_fault file)) is in
@@ -87,6 +95,17 @@ both_true true true one two = refl
 both_true true false one two = two
 both_true false b one two = one
 
+IsBytes-drop : (n : ℕ) (bytes : List ℕ) → IsBytes bytes → IsBytes (drop n bytes)
+IsBytes-drop zero bytes are i = are i
+IsBytes-drop (suc n) [] are i = are i
+IsBytes-drop (suc n) (b ∷ bytes) are i = IsBytes-drop n bytes (λ k. are (suc k)) i
+
+IsBytes-take : (n : ℕ) (bytes : List ℕ) → IsBytes bytes → IsBytes (take n bytes)
+IsBytes-take zero bytes are i = lit< tt
+IsBytes-take (suc n) [] are i = are i
+IsBytes-take (suc n) (b ∷ bytes) are zero = are 0
+IsBytes-take (suc n) (b ∷ bytes) are (suc i) = IsBytes-take n bytes (λ k. are (suc k)) i
+
 module _ (laws : Laws) (file : List ℕ) (is : IsModule file) (f : Function) (listed : Contains (declared_functions file) f) where
   code : IsCode file f
   code = laws.code file f is listed
@@ -105,21 +124,16 @@ module _ (laws : Laws) (file : List ℕ) (is : IsModule file) (f : Function) (li
   unfolding file_offset place
   placed = rw found.3 refl
 
-  lent_code : bytes_at (image_of file) f.entry f.size ≡ Some (code_of file f)
-  unfolding image_of bytes_at code_of
+  lent_code : bytes_at (image_of file) f.entry f.size ≡ Some (code_in (image_of file) f)
+  unfolding image_of bytes_at code_at
   lent_code = rw placed refl
 
-  length-code : length (code_of file f) ≡ f.size
-  unfolding image_of bytes_at code_of place
-  length-code =
-      let part = among found.0.vaddr found.0.filesz f.entry f.size found.2 in
-      let bound = bounds found.0 found.1 in
-      let low = part.0 in
-      let high = part.2 in
-      let inside = bound.inside in
-      let rest = length-drop (found.0.offset + (f.entry - found.0.vaddr)) file in
-      let fits : f.size ≤ length (drop (found.0.offset + (f.entry - found.0.vaddr)) file) = omega (arith, rest, low, high, inside) in
-      rw placed (length-take-le f.size (drop (found.0.offset + (f.entry - found.0.vaddr)) file) fits)
+  length-code : length (code_in (image_of file) f) ≡ f.size
+  length-code = laws.sized file f is listed
+
+  are_bytes : IsBytes file → IsBytes (code_in (image_of file) f)
+  unfolding image_of bytes_at code_at
+  are_bytes bytes = rw placed (IsBytes-take f.size (drop place file) (IsBytes-drop place file bytes))
 
   -- the code lies in the memory of its segment
   in_part : in_memory f.entry f.size code.segment ≡ true
@@ -136,14 +150,14 @@ module _ (laws : Laws) (file : List ℕ) (is : IsModule file) (f : Function) (li
   executable : in_executable (segments_of file) f.entry f.size ≡ true
   executable = any_of (λ s. is_executable s && in_memory f.entry f.size s) (segments_of file) code.segment code.listed (both_true (is_executable code.segment) (in_memory f.entry f.size code.segment) code.is_executed in_part)
 
-  byte_of_code : (w : World) (k : ℕ) → k < length (code_of file f) → (module_of file).byte w (f.entry + k) ≡ get_or (code_of file f) k 0
+  byte_of_code : (w : World) (k : ℕ) → k < length (code_in (image_of file) f) → (module_of file).byte w (f.entry + k) ≡ get_or (code_in (image_of file) f) k 0
   unfolding module_of image_of
   byte_of_code w k inside =
       let few : k < f.size = omega (arith, inside, length-code) in
       laws.settled (image_of file) (is_image file is) f.entry f.size executable w.load (slice_index w.hosts) (f.entry + k) (omega arith) (omega arith)
-      ∙ sym (laws.lent (image_of file) (is_image file is) f.entry f.size (code_of file f) lent_code k few)
+      ∙ sym (laws.lent (image_of file) (is_image file is) f.entry f.size (code_in (image_of file) f) lent_code k few)
 
-  holds_code : HoldsCode (module_of file) f (code_of file f)
+  holds_code : HoldsCode (module_of file) f (code_in (image_of file) f)
   unfolding module_of
   holds_code =
       let s = code.segment in
@@ -159,15 +173,27 @@ module _ (laws : Laws) (file : List ℕ) (is : IsModule file) (f : Function) (li
         byte = byte_of_code;
       }
 
--- a function by its number
-numbered : {X : Type 0} (xs : List X) (x : X) → Contains xs x → (k : ℕ) × (slice_get xs k ≡ Some x)
-numbered [] x (k, inside, is) = absurd (omega arith)
-numbered (y ∷ xs) x (zero, inside, is) = (0, ap Some is)
-numbered (y ∷ xs) x (suc k, inside, is) = let later = numbered xs x (k, omega arith, is) in (suc later.0, later.1)
+-- the table of a function
+table_for : (image : Contents) (functions : List Function) (tables : List FunctionTable) (f : Function) → Contains functions f → TablesOf IsSafeTable image functions tables → TablesOf IsCoveredTable image functions tables
+    → (t : FunctionTable) × Contains tables t × (t.entry ≡ f.entry) × IsSafeTable (code_in image f) t.states × IsCoveredTable (code_in image f) t.states
+table_for image [] tables f (k, inside, is) safe covered = absurd (omega arith)
+table_for image (g ∷ functions) [] f (k, inside, is) safe covered = absurd safe
+table_for image (g ∷ functions) (t ∷ tables) f (zero, inside, is) safe covered = (
+  t,
+  (0, omega arith, refl),
+  safe.0 ∙ ap (λ (h : Function). h.entry) is,
+  subst (λ (h : Function). IsSafeTable (code_in image h) t.states) is safe.1,
+  subst (λ (h : Function). IsCoveredTable (code_in image h) t.states) is covered.1,
+)
+table_for image (g ∷ functions) (t ∷ tables) f (suc k, inside, is) safe covered =
+    let later = table_for image functions tables f (k, omega arith, is) safe.2 covered.2 in
+    (later.0, (suc later.1.0, omega (arith, later.1.1), later.1.2), later.2, later.3, later.4)
 
--- Code that is safe in each function of a module stays in its sandbox.
-pub safe_module : Laws → (file : List ℕ) → IsModule file → EachFunction file IsBuilt → EachFunction file IsSafe → IsSandboxed (module_of file)
+-- Code with safe tables stays in its sandbox and keeps to them.
+pub safe_module : Laws → (file : List ℕ) (tables : Tables) → IsModule file → IsBytes file → AreSafe (declared_module file) tables
+    → TablesOf IsCoveredTable (image_of file) (declared_functions file) tables.functions → IsSandboxed (module_of file) tables.functions
 unfolding module_of
-safe_module laws file is built safe w laid f listed s initial choices =
-    let number = numbered (declared_functions file) f listed in
-    sandboxed (module_of file) f (code_of file f) (holds_code laws file is f listed) (built number.0 f number.1) (safe number.0 f number.1) w laid s initial choices
+safe_module laws file tables is bytes safe covered w laid f listed s initial choices =
+    let t = table_for (image_of file) (declared_functions file) tables.functions f listed safe covered in
+    let code = code_in (image_of file) f in
+    sandboxed (module_of file) f code (holds_code laws file is f listed) tables.functions t.0 t.1 t.2 t.3 t.4 (λ at known. laws.posts code at known (are_bytes laws file is f listed bytes)) w laid s initial choices

@@ -2,20 +2,28 @@
 use Rattle.std.specs.Prelude.{◌≡◌, ℕ, List, [], ◌∷◌, length, codes, Option, Some, None, IfSome, Bool, true}
 use Rattle.vw_outside.specs.Shelf.{Rose}
 use Rattle.vw_dynamic.specs.Dynamic.{file_imports}
-use Rattle.vw_layout.specs.declared.functions.Function.{Function}
+use Rattle.vw_layout.specs.declared.layout.Module.{Module}
 use Rattle.vw_layout.specs.Layout.{module_fault, declared_functions, declared_tables}
 use Rattle.vw_app.specs.declared.request.Command.{Command}
 use Rattle.vw_app.specs.declared.request.Command.TheVariants as command
-use Rattle.vw_app.specs.Lines.{usage_line, safe_line, unbuilt_line, read_fault_line, malformed_line, unsafe_line, info_text}
-use Rattle.vw_app.specs.Walk.{IsBuilt, IsSafe}
-use Rattle.vw_app.specs.Judged.{EachFunction, FirstFailing}
+use Rattle.vw_app.specs.Lines.{usage_line, safe_line, uncovered_line, read_fault_line, malformed_line, unsafe_line, info_text}
+use Rattle.vw_state.specs.declared.tables.Place.{Place}
+use Rattle.vw_verdict.specs.Verdicts.{EachHasSafeTable, IsPlaceOf}
+use Rattle.vw_app.specs.Module.{declared_module}
+use Rattle.vw_app.specs.Covered.{IsCoveredModule, HasAnother}
 
 -- the status and the text of the verdict on a module
-pub data Judged (file : List ℕ) : ℕ → List ℕ → Type 0 where
-  -- the walk of some function meets an instruction that this version does not judge
-  unbuilt : (EachFunction file IsBuilt → ⊥) → Judged file 8 unbuilt_line
-  safe : EachFunction file IsBuilt → EachFunction file IsSafe → Judged file 0 (safe_line (length (declared_functions file)))
-  unsafe : (number : ℕ) (f : Function) (at check : ℕ) → EachFunction file IsBuilt → FirstFailing file number f at check → Judged file 1 (unsafe_line f.name at check)
+pub data Judged (m : Module) : ℕ → List ℕ → Type 0 where
+  -- at a point of the least table of some function an instruction stands that this version does not cover
+  uncovered : HasAnother m → Judged m 8 uncovered_line
+  -- every declared function has a safe table
+  safe : IsCoveredModule m → EachHasSafeTable m → Judged m 0 (safe_line (length m.functions))
+  -- some declared function has no safe table: the module's place
+  unsafe : (place : Place) (fails : IsPlaceOf m place) → IsCoveredModule m → (EachHasSafeTable m → ⊥) → Judged m 1 (unsafe_line fails.function.name place.at place.check)
+
+-- the status and the text of the verdict on the module of a file
+abbrev pub Verified : List ℕ → ℕ → List ℕ → Type 0
+Verified file = Judged (declared_module file)
 
 -- the status and the text that show what a module declares
 abbrev pub Shown : List ℕ → ℕ → List ℕ → Type 0
@@ -23,7 +31,7 @@ Shown file status text = (status ≡ 0) × (text ≡ info_text (declared_functio
 
 -- the status and the text that a command gives for a module
 abbrev pub Done : Command → List ℕ → ℕ → List ℕ → Type 0
-Done command.Verify = Judged
+Done command.Verify = Verified
 Done command.Info = Shown
 
 -- the status and the text that a command gives for the bytes of a file

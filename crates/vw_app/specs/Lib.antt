@@ -3,9 +3,7 @@ pub mod Module
 pub mod Machine
 pub mod Permitted
 pub mod Sandboxed
-pub mod Walk
-pub mod Judged
-pub mod Found
+pub mod Covered
 pub mod Lines
 pub mod Answer
 pub mod Laws

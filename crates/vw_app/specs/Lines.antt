@@ -30,8 +30,8 @@ usage_line =
 unfoldable pub safe_line : ℕ → List ℕ
 safe_line count = line (codes "safe, functions " ++ decimal count)
 
-unfoldable pub unbuilt_line : List ℕ
-unbuilt_line = line (codes "not built yet")
+unfoldable pub uncovered_line : List ℕ
+uncovered_line = line (codes "not built yet")
 
 unfoldable pub read_fault_line : List ℕ
 read_fault_line = line (codes "read fault")
@@ -40,13 +40,24 @@ read_fault_line = line (codes "read fault")
 unfoldable pub malformed_line : ℕ → ℕ → List ℕ
 malformed_line rule offset = line (codes "malformed, rule " ++ decimal rule ++ codes " at " ++ decimal offset)
 
--- the name of a check
-abbrev pub check_name : ℕ → List ℕ
-check_name check = if check == 1 then codes "C1 code" else codes "C4 address"
+-- the word of a check
+abbrev pub check_word : ℕ → List ℕ
+check_word check =
+    if check == 1 then codes "code"
+    else (if check == 2 then codes "jump"
+    else (if check == 3 then codes "depth"
+    else (if check == 4 then codes "address"
+    else (if check == 5 then codes "read only"
+    else (if check == 6 then codes "local"
+    else (if check == 7 then codes "call" else codes "return"))))))
+
+-- a check: its number and its word
+abbrev pub check_text : ℕ → List ℕ
+check_text check = codes "C" ++ decimal check ++ codes " " ++ check_word check
 
 -- a function's name, an offset in the function, and the check that fails there
 unfoldable pub unsafe_line : List ℕ → ℕ → ℕ → List ℕ
-unsafe_line name at check = line (codes "unsafe, " ++ name_text name ++ codes "+0x" ++ hex_text at 1 ++ codes ", " ++ check_name check)
+unsafe_line name at check = line (codes "unsafe, " ++ name_text name ++ codes "+0x" ++ hex_text at 1 ++ codes ", " ++ check_text check)
 
 -- a function: its entry, how many bytes it has, and its name
 abbrev pub function_line : Function → List ℕ

@@ -1,14 +1,15 @@
 -- A module as the machine sees it: the bytes of its image and where its functions are.
-use Rattle.std.specs.Prelude.{ℕ, zero, suc, ◌+◌, ◌*◌, ◌||◌, Bool, List, [], ◌∷◌, map, length, unwrap_or, slice_index}
+use Rattle.std.specs.Prelude.{ℕ, zero, suc, ◌+◌, ◌*◌, ◌||◌, Bool, List, [], ◌∷◌, map, length, slice_index}
 use Rattle.std.specs.List.{list_any}
 use Rattle.vw_bits.specs.Headers.{segments_of}
 use Rattle.vw_bits.specs.Places.{is_among}
 use Rattle.vw_bits.specs.declared.records.Segment.{Segment}
 use Rattle.vw_dynamic.specs.Dynamic.{file_imports}
 use Rattle.vw_image.specs.Image.{image_of, image_byte}
-use Rattle.vw_image.specs.Words.{readable, bytes_at}
+use Rattle.vw_image.specs.Words.{readable}
 use Rattle.vw_layout.specs.declared.functions.Function.{Function}
 use Rattle.vw_layout.specs.declared.tables.TableInfo.{TableInfo}
+use Rattle.vw_layout.specs.declared.layout.Module.{Module as Declared}
 use Rattle.vw_layout.specs.Layout.{declared_functions, declared_tables}
 use Rattle.vw_app.specs.World.{World, Range}
 
@@ -48,6 +49,6 @@ module_of file = record {
   imports = length (file_imports file);
 }
 
--- the bytes of a function in the file
-unfoldable pub code_of : List ℕ → Function → List ℕ
-code_of file f = unwrap_or (bytes_at (image_of file) f.entry f.size) []
+-- the module that a file gives, as the crates below see it
+abbrev pub declared_module : List ℕ → Declared
+declared_module file = record { functions = declared_functions file; tables = declared_tables file; image = image_of file }

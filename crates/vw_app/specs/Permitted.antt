@@ -1,6 +1,6 @@
 -- The events of a step, and which of them a sandbox permits.
 use Rattle.std.specs.Prelude.{◌≡◌, ℕ, ◌+◌, ◌-◌, ◌<◌, ◌≤◌, ◌⊎◌, true, if◌then◌else◌, List, [], ◌∷◌, ◌++◌, map, Contains}
-use Rattle.vw_insn.specs.Effect.{Transfer, Next, Back, Stop, Unstated, Way, Ordinary, Return, Unlisted, way, reads}
+use Rattle.vw_insn.specs.Effect.{Transfer, Next, To, Back, Stop, Unstated, Way, Ordinary, Return, Unlisted, way, reads}
 use Rattle.vw_app.specs.World.{Range, World, IsWithin, IsIn, loaded_range, heap_range, globals_range}
 use Rattle.vw_layout.specs.declared.functions.Function.{Function}
 use Rattle.vw_app.specs.Module.{Module}
@@ -14,6 +14,7 @@ pub data Event : Type 0 where
 -- where a transfer goes, seen from the instruction before `next`
 abbrev pub target : ℕ → Transfer → List Event
 target next Next = Goes next ∷ []
+target next (To to) = Goes to ∷ []
 target next (Back to) = Goes to ∷ []
 target next Stop = []
 target next Unstated = Goes next ∷ []

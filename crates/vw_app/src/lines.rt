@@ -1,8 +1,6 @@
 ghost use Rattle.std.specs.Prelude.{◌≡◌, ◌++◌, IfOk, OnOk};
-ghost use Rattle.vw_app.specs.Lines.{line, name_byte, name_text, safe_line, unsafe_line, malformed_line};
-ghost use Rattle.vw_app.specs.Found.{check_number};
+ghost use Rattle.vw_app.specs.Lines.{line, name_byte, name_text, safe_line, unsafe_line, check_text, check_word, malformed_line};
 
-use crate::check::Check;
 use std::alloc::Global;
 use vw_bits::{OutOfMemory, Text};
 
@@ -17,9 +15,9 @@ pub fn safe_text(alloc: Global, functions: usize) -> Result<Text, OutOfMemory>
     Ok(text)
 }
 
-/// The line for a check that fails at an offset of the function of this name.
-pub fn unsafe_text(alloc: Global, name: &[u8], at: usize, check: Check) -> Result<Text, OutOfMemory>
-    ensures { IfOk result (λ text. text ≡ unsafe_line name.now at (check_number check)) }
+/// The line for a check, by its number, that fails at an offset of the function of this name.
+pub fn unsafe_text(alloc: Global, name: &[u8], at: u32, check: u8) -> Result<Text, OutOfMemory>
+    ensures { IfOk result (λ text. text ≡ unsafe_line name.now at check) }
 {
     let mut text = Text::new(alloc);
     text.push(b"unsafe, ")?;
@@ -27,9 +25,35 @@ pub fn unsafe_text(alloc: Global, name: &[u8], at: usize, check: Check) -> Resul
     text.push(b"+0x")?;
     text.hex(at as u64, 1)?;
     text.push(b", ")?;
-    text.push(check.name())?;
+    push_check(&mut text, check)?;
     text.push(b"\n")?;
     Ok(text)
+}
+
+/// Appends a check, by its number from 1 to 8: the number and its word.
+fn push_check(text: &mut Text, check: u8) -> Result<(), OutOfMemory>
+    ensures { OnOk result (text.new ≡ text.old ++ check_text check) }
+{
+    text.push(b"C")?;
+    text.dec(check as u64)?;
+    text.push(b" ")?;
+    text.push(check_word(check))
+}
+
+/// The word of a check, by its number from 1 to 8.
+fn check_word(check: u8) -> &'static [u8]
+    ensures { result.now ≡ check_word check }
+{
+    match check {
+        1 => b"code",
+        2 => b"jump",
+        3 => b"depth",
+        4 => b"address",
+        5 => b"read only",
+        6 => b"local",
+        7 => b"call",
+        _ => b"return",
+    }
 }
 
 /// The line for a file of which this rule is the first that breaks, with the offset that it names.

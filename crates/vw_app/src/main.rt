@@ -1,9 +1,8 @@
 //! Decides whether the functions of a module stay inside their sandbox.
 #![tactic(auto)]
 
-mod check;
+mod covered;
 mod info;
-mod judged;
 mod laws;
 mod lines;
 mod program;
@@ -11,7 +10,6 @@ mod request;
 mod round_trip;
 mod status;
 mod verdict;
-mod walk;
 
 use program::run;
 use std::env;

@@ -1,17 +1,14 @@
 ghost use Rattle.std.specs.Prelude.{◌≡◌, ◌≢◌, ℕ, List, map, string_bytes, IfOk};
 ghost use Rattle.vw_outside.specs.Shelf.{Rose};
 ghost use Rattle.vw_outside.specs.Sink.{Appended, AppendedFront};
-ghost use Rattle.vw_layout.specs.Layout.{IsWhole};
-ghost use Rattle.vw_app.specs.Module.{module_of};
-ghost use Rattle.vw_app.specs.Answer.{Answered, Judged, AreTold, Asks, Reply, ReadFailed};
-ghost use Rattle.vw_app.specs.Sandboxed.{IsSandboxed, IsSandboxedFile};
+ghost use Rattle.vw_app.specs.Answer.{Answered, AreTold, Asks, Reply, ReadFailed};
+ghost use Rattle.vw_app.specs.Sandboxed.{IsSandboxedFile};
 
 use crate::info::info_text;
-use crate::laws::safe_code_is_sandboxed;
-use crate::lines::{malformed_text, safe_text, text_of, unsafe_text};
+use crate::lines::malformed_text;
 use crate::request::{Command, request_of};
 use crate::status::Status;
-use crate::verdict::{Failure, Verdict, judge};
+use crate::verdict::verify;
 use std::alloc::Global;
 use vw_bits::{List, OutOfMemory, Text};
 use vw_layout::{Module, ModuleError};
@@ -22,8 +19,6 @@ const LONGEST_FILE: u64 = 0x400_0000;
 
 const USAGE: &[u8] =
     b"usage: vw verify FILE | report FILE | check FILE REPORT | list FILE | info FILE | trace FILE FUNCTION STEPS NUMBER | make FUNCTIONS NUMBER | selftest FUNCTIONS NUMBER\n";
-
-const NOT_BUILT: &[u8] = b"not built yet\n";
 
 const READ_FAULT: &[u8] = b"read fault\n";
 
@@ -42,7 +37,8 @@ pub fn run<F: Shelf, K: Sink>(
         (ReadFailed (F.faults shelf.old) (F.faults shelf.new) (F.opened shelf.new) (F.failed shelf.new))
         result.0 text }
 
-    // Where the verdict is safe, every run of every function in every instance stays in its sandbox.
+    // Where the verdict is safe, the file is a module whose least tables are safe, and every run of every
+    // function in every instance stays in its sandbox and keeps to these tables.
     ensures safe { (name : List ℕ) → Asks (map string_bytes words.now) Command.Verify name → result.0 ≡ 0
         → (file : List ℕ) × AreTold (F.told shelf.old name) file × IsSandboxedFile file }
 
@@ -90,32 +86,6 @@ fn answer(alloc: Global, command: Command, file: List<u8>) -> Result<(Status, Te
             Ok((Status::MALFORMED, malformed_text(alloc, rule, offset)?))
         }
         Err(ModuleError::Memory(OutOfMemory)) => Err(OutOfMemory),
-    }
-}
-
-/// The status and the line of the verdict on a module.
-fn verify(alloc: Global, loaded: &Module) -> Result<(Status, Text), OutOfMemory>
-    requires { IsWhole loaded.now }
-    ensures judged { IfOk result (λ reply. Judged loaded.now.image.bytes reply.0.0 reply.1) }
-    ensures safe { IfOk result (λ reply. reply.0.0 ≡ 0 → IsSandboxed (module_of loaded.now.image.bytes)) }
-    ensures no_fault { IfOk result (λ reply. reply.0.0 ≢ 5) }
-    ensures no_want { IfOk result (λ reply. reply.0.0 ≢ 6) }
-{
-    safe_code_is_sandboxed();
-    let functions = loaded.functions.as_slice();
-    match judge(loaded) {
-        Verdict::Safe => Ok((Status::SAFE, safe_text(alloc, functions.len())?)),
-        Verdict::Unsafe(
-            Failure {
-                function,
-                at,
-                check,
-            },
-        ) => {
-            let name = functions[function].name.as_slice();
-            Ok((Status::UNSAFE, unsafe_text(alloc, name, at, check)?))
-        }
-        Verdict::NotBuilt => Ok((Status::NOT_BUILT, text_of(alloc, NOT_BUILT)?)),
     }
 }
 

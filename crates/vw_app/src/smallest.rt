@@ -27,7 +27,7 @@ const STRINGS: [u8; 8] = [0, 0x66, 0, 0, 0, 0, 0, 0];
 /// The file of the smallest module: one function `f` of this code from byte 120 on, its symbol and a
 /// symbol table (System V gABI, "ELF Header", "Program Header", "Symbol Table", "Sections").
 pub fn smallest_module(alloc: Global, code: &[u8]) -> Result<Vec<u8>, Fail>
-    requires { length code.now ≤ 1000 }
+    requires { length code.now ≤ 1048576 }
 {
     let size = code.len() as u64;
     let end = 120 + size;
@@ -47,7 +47,7 @@ pub fn smallest_module(alloc: Global, code: &[u8]) -> Result<Vec<u8>, Fail>
 
 fn push_tables(file: &mut Vec<u8>, size: u64, end: u64, symbols: u64) -> Result<(), Fail>
     requires order { end ≤ symbols }
-    requires near { symbols ≤ 2000 }
+    requires near { symbols ≤ 2097152 }
 {
     push_zeros(file, symbols - end)?;
     file.extend_from_slice(&SYMBOLS_FRONT)?;

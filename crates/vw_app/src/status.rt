@@ -17,6 +17,6 @@ impl Status {
     pub const WRITE_FAULT: Status = Status(5);
     /// Memory was refused.
     pub const OUT_OF_MEMORY: Status = Status(6);
-    /// This version does not judge the file.
-    pub const NOT_BUILT: Status = Status(8);
+    /// This version does not cover the file.
+    pub const NOT_COVERED: Status = Status(8);
 }

@@ -56,36 +56,76 @@ fn answer<F: Shelf>(
     Ok((status, sink))
 }
 
-// Functions by their code: safe ones, checks that fail, and instructions that are not judged.
+// Functions by their code: safe ones, checks that fail, and instructions that are not covered.
+const VERDICTS: [(&str, u8, &str); 28] = [
+    ("8b8700000000c3", 0, "safe, functions 1\n"),
+    ("8b87f8ffffffc3", 1, "unsafe, f+0x0, C4 address\n"),
+    ("8b87f8ffffff90", 1, "unsafe, f+0x7, C1 code\n"),
+    ("8987ffffff7f0f0b", 0, "safe, functions 1\n"),
+    ("4090c3", 0, "safe, functions 1\n"),
+    ("90", 1, "unsafe, f+0x1, C1 code\n"),
+    ("0f0b", 0, "safe, functions 1\n"),
+    (
+        "90908987000000808b87ffffffffc3",
+        1,
+        "unsafe, f+0x2, C4 address\n",
+    ),
+    ("f290c3", 1, "unsafe, f+0x0, C1 code\n"),
+    ("8b07c3", 0, "safe, functions 1\n"),
+    ("908b", 1, "unsafe, f+0x1, C1 code\n"),
+    ("8b47f8c3", 1, "unsafe, f+0x0, C4 address\n"),
+    ("8b0fc3", 8, "not built yet\n"),
+    // a branch to itself, endless jumps
+    ("74fec3", 0, "safe, functions 1\n"),
+    ("ebfe", 0, "safe, functions 1\n"),
+    ("90ebfe", 0, "safe, functions 1\n"),
+    ("e900000000c3", 0, "safe, functions 1\n"),
+    // out of the function: behind its last byte, far behind, and before its first
+    ("7401c3", 1, "unsafe, f+0x0, C2 jump\n"),
+    ("7502c3", 1, "unsafe, f+0x0, C2 jump\n"),
+    ("eb7f", 1, "unsafe, f+0x0, C2 jump\n"),
+    ("0f84f8ffffffc3", 1, "unsafe, f+0x0, C2 jump\n"),
+    // into the end of the code by falling through a branch
+    ("74fe90", 1, "unsafe, f+0x3, C1 code\n"),
+    // the jump goes to the entry
+    ("7401908b47f8ebf8", 1, "unsafe, f+0x3, C4 address\n"),
+    ("7401908b4708ebf8", 0, "safe, functions 1\n"),
+    // a jump out of the function goes before an access at a lower point
+    ("8b47f8eb7f", 1, "unsafe, f+0x3, C2 jump\n"),
+    // PUSH that no jump comes to, and one behind a branch that fails a check
+    ("eb0155c3", 0, "safe, functions 1\n"),
+    ("757f55c3", 8, "not built yet\n"),
+    ("757f90c3", 1, "unsafe, f+0x0, C2 jump\n"),
+];
+
 #[test]
 fn verdicts(rt: HostRuntime) -> Result<(), Fail> {
     let alloc = rt.alloc();
-    let cases: [(&str, u8, &str); 14] = [
-        ("8b8700000000c3", 0, "safe, functions 1\n"),
-        ("8b87f8ffffffc3", 1, "unsafe, f+0x0, C4 address\n"),
-        ("8b87f8ffffff90", 1, "unsafe, f+0x7, C1 code\n"),
-        ("8987ffffff7f0f0b", 0, "safe, functions 1\n"),
-        ("4090c3", 0, "safe, functions 1\n"),
-        ("90", 1, "unsafe, f+0x1, C1 code\n"),
-        ("0f0b", 0, "safe, functions 1\n"),
-        (
-            "90908987000000808b87ffffffffc3",
-            1,
-            "unsafe, f+0x2, C4 address\n",
-        ),
-        ("f290c3", 1, "unsafe, f+0x0, C1 code\n"),
-        ("8b07c3", 0, "safe, functions 1\n"),
-        ("908b", 1, "unsafe, f+0x1, C1 code\n"),
-        ("8b47f8c3", 1, "unsafe, f+0x0, C4 address\n"),
-        ("90ebfe", 8, "not built yet\n"),
-        ("8b0fc3", 8, "not built yet\n"),
-    ];
-    for (hex, status, text) in cases {
+    for (hex, status, text) in VERDICTS.iter() {
         let code = from_hex(alloc, hex)?;
         assert!(rt; code.len() <= 100);
         let file = smallest_module(alloc, code.as_slice())?;
         let mut shelf = shelf(alloc, "-", file.as_slice(), &[])?;
-        expect(&rt, &["verify", "-"], &mut shelf, &[], (status, text))?;
+        expect(&rt, &["verify", "-"], &mut shelf, &[], (*status, text))?;
+    }
+    Ok(())
+}
+
+// 1 MiB of NOP up to a RET, and 500,000 jumps each to the next.
+#[test]
+fn long_functions(rt: HostRuntime) -> Result<(), Fail> {
+    let alloc = rt.alloc();
+    for (piece, times) in [([0x90].as_slice(), 1_048_575), (&[0xEB, 0x00], 500_000)] {
+        let mut code = Vec::new(alloc);
+        for _ in 0..times {
+            code.extend_from_slice(piece)?;
+        }
+        code.push(0xC3)?;
+        assert!(rt; code.len() <= 1_048_576);
+        let file = smallest_module(alloc, code.as_slice())?;
+        let mut shelf = NeverFails::new(List::from_vec(file));
+        let safe = (0, "safe, functions 1\n");
+        expect(&rt, &["verify", "m"], &mut shelf, &[], safe)?;
     }
     Ok(())
 }

@@ -1,74 +1,107 @@
-ghost use Rattle.std.specs.Prelude.{◌≡◌, Some, None, IfSome};
+ghost use Rattle.std.specs.Prelude.{◌≡◌, ◌≢◌, ℕ, ◌<◌, IfOk};
+ghost use Rattle.vw_rows.specs.Numbers.{IsBytes};
+ghost use Rattle.vw_layout.specs.declared.functions.Function.{Function};
 ghost use Rattle.vw_layout.specs.Layout.{IsWhole};
-ghost use Rattle.vw_app.specs.Module.{code_of};
-ghost use Rattle.vw_app.specs.Found.{Judges};
+ghost use Rattle.vw_verdict.specs.Verdicts as verdicts;
+ghost use Rattle.vw_app.specs.Answer.{Judged};
+ghost use Rattle.vw_app.specs.Covered.{IsCoveredModule};
+ghost use Rattle.vw_app.specs.Lines.{unsafe_line};
+ghost use Rattle.vw_app.specs.Sandboxed.{IsSandboxedFile};
 
-use crate::check::Check;
-use crate::walk::{Finding, walk};
-use vw_layout::{Function, Module};
+use crate::covered::is_covered_module;
+use crate::laws::safe_code_is_sandboxed;
+use crate::lines::{safe_text, text_of, unsafe_text};
+use crate::status::Status;
+use std::alloc::Global;
+use std::marker::Brand;
+use std::sync::ledger::{Blank, Ledger};
+use vw_bits::{OutOfMemory, Text};
+use vw_layout::{Module, functions_ascend};
+use vw_solver::Steps;
+use vw_state::{Place, Verdict};
+use vw_verdict::judge;
 
-/// The verdict on a module.
-#[derive(Clone, Copy, Debug, PartialEq, Eq)]
-pub enum Verdict {
-    /// Every function is safe.
-    Safe,
-    /// This is the first function, by address, at which a check fails.
-    Unsafe(Failure),
-    /// The walk of some function meets an instruction that this version does not judge.
-    NotBuilt,
-}
+const NOT_COVERED: &[u8] = b"not built yet\n";
 
-/// Where a check fails.
-#[derive(Clone, Copy, Debug, PartialEq, Eq)]
-pub struct Failure {
-    /// The number of the function, from 0, by address.
-    pub function: usize,
-    /// The offset from the function's first byte.
-    pub at: usize,
-    pub check: Check,
-}
-
-/// Walks every function of the module.
-pub fn judge(loaded: &Module) -> Verdict
+/// The status and the line of the verdict on a module.
+pub fn verify(alloc: Global, loaded: &Module) -> Result<(Status, Text), OutOfMemory>
     requires { IsWhole loaded.now }
-    ensures { Judges loaded.now.image.bytes result }
+    ensures judged { IfOk result (λ reply. Judged loaded.now reply.0.0 reply.1) }
+    ensures safe { IfOk result (λ reply. reply.0.0 ≡ 0 → IsSandboxedFile loaded.now.image.bytes) }
+    ensures no_fault { IfOk result (λ reply. reply.0.0 ≢ 5) }
+    ensures no_want { IfOk result (λ reply. reply.0.0 ≢ 6) }
 {
-    let functions = loaded.functions.as_slice();
-    let mut first = None;
-    let mut number = 0;
-    while number < functions.len() {
-        match walk(code_of(loaded, &functions[number])) {
-            Finding::NotBuilt => return Verdict::NotBuilt,
-            Finding::Fails { at, check } => first = first_of(first, number, at, check),
-            Finding::Safe => {}
+    verify_from::<Brand>(alloc, loaded, Blank::new(1))
+}
+
+/// The same, with a blank for the count of steps, which nobody reads.
+fn verify_from<L: Ledger>(
+    alloc: Global,
+    loaded: &Module,
+    blank: Blank,
+) -> Result<(Status, Text), OutOfMemory>
+    requires whole { IsWhole loaded.now }
+    requires name { blank.name ≡ L.name }
+    requires parts { blank.parts ≡ L.parts }
+    requires some { 0 < L.parts }
+    ensures judged { IfOk result (λ reply. Judged loaded.now reply.0.0 reply.1) }
+    ensures safe { IfOk result (λ reply. reply.0.0 ≡ 0 → IsSandboxedFile loaded.now.image.bytes) }
+    ensures no_fault { IfOk result (λ reply. reply.0.0 ≢ 5) }
+    ensures no_want { IfOk result (λ reply. reply.0.0 ≢ 6) }
+{
+    let mut steps: Steps<L> = Steps::from_blank(blank);
+    if !is_covered_module(alloc, loaded, &mut steps)? {
+        return Ok((Status::NOT_COVERED, text_of(alloc, NOT_COVERED)?));
+    }
+    let verdict = judge(alloc, loaded, &mut steps)?;
+    told(alloc, loaded, &verdict)
+}
+
+/// The status and the line of a verdict on a module that this version covers.
+fn told(alloc: Global, loaded: &Module, verdict: &Verdict) -> Result<(Status, Text), OutOfMemory>
+    requires whole { IsWhole loaded.now }
+    requires covered_module { IsCoveredModule loaded.now }
+    requires verdict { verdicts.Judged loaded.now verdict.now }
+    ensures judged { IfOk result (λ reply. Judged loaded.now reply.0.0 reply.1) }
+    ensures safe { IfOk result (λ reply. reply.0.0 ≡ 0 → IsSandboxedFile loaded.now.image.bytes) }
+    ensures no_fault { IfOk result (λ reply. reply.0.0 ≢ 5) }
+    ensures no_want { IfOk result (λ reply. reply.0.0 ≢ 6) }
+{
+    safe_code_is_sandboxed();
+    as_bytes(loaded.image.bytes());
+    match verdict {
+        Verdict::Safe(_) => {
+            let text = safe_text(alloc, loaded.functions.as_slice().len())?;
+            Ok((Status::SAFE, text))
         }
-        number += 1;
-    }
-    match first {
-        None => Verdict::Safe,
-        Some(failure) => Verdict::Unsafe(failure),
+        Verdict::Unsafe(place) => Ok((Status::UNSAFE, place_text(alloc, loaded, *place)?)),
     }
 }
 
-/// The first failure, once a later function fails.
-fn first_of(first: Option<Failure>, function: usize, at: usize, check: Check) -> Option<Failure>
-    ensures kept { IfSome first (λ failure. result ≡ Some failure) }
-    ensures new { first ≡ None → result ≡ Some (record { function = function; at = at; check = check }) }
-{
-    first.or(Some(Failure {
-        function,
-        at,
-        check,
-    }))
-}
-
-/// The bytes of a function.
-fn code_of<'a>(loaded: &'a Module, function: &Function) -> &'a [u8]
+/// The line for a place of the module where a check fails.
+fn place_text(alloc: Global, loaded: &Module, place: Place) -> Result<Text, OutOfMemory>
     requires { IsWhole loaded.now }
-    ensures { result.now ≡ code_of loaded.now.image.bytes function.now }
+    ensures { IfOk result (λ text. (fails : verdicts.IsPlaceOf loaded.now place) → text ≡ unsafe_line fails.function.name place.at place.check) }
 {
-    loaded
-        .image
-        .bytes_at(function.entry, function.size as u64)
-        .unwrap_or(&[])
+    unsafe_text(alloc, name_at(loaded, place.entry), place.at, place.check)
+}
+
+/// The name of the declared function that begins at an address.
+fn name_at<'a>(loaded: &'a Module, entry: u64) -> &'a [u8]
+    requires { IsWhole loaded.now }
+    ensures { (number : ℕ) (f : Function) → verdicts.IsNumbered loaded.now number f → entry ≡ f.entry → result.now ≡ f.name }
+{
+    functions_ascend();
+    match loaded.function_at(entry) {
+        Some(number) => loaded.functions.as_slice()[number as usize].name.as_slice(),
+        None => b"",
+    }
+}
+
+// The same bytes, each below 256.
+fn as_bytes(bytes: &[u8]) -> &[u8]
+    ensures same { result.now ≡ bytes.now }
+    ensures bytes { IsBytes result.now }
+{
+    bytes
 }

@@ -1,6 +1,6 @@
-use Rattle.std.proofs.Common.{◌≡◌, ◌∙◌, ap}
+use Rattle.std.proofs.Common.{ap}
 use Rattle.vw_image.specs.Image.{Contents, image_of}
-use Rattle.vw_app.specs.Lines.{info_text, function_lines, table_lines, import_lines}
+use Rattle.vw_app.specs.Lines.{info_text}
 use Rattle.vw_app.proofs.Pieces.{three_parts}
 use Rattle.vw_app.proofs.info.info_text.Goals as goal
 

@@ -1,6 +1,6 @@
-use Rattle.std.proofs.Common.{◌≡◌, ◌++◌, length, codes, take}
+use Rattle.std.proofs.Common.{◌≡◌, ◌++◌, take}
 use Rattle.std.specs.List.{flat_map}
-use Rattle.vw_app.specs.Lines.{count_line, function_line}
+use Rattle.vw_app.specs.Lines.{function_line}
 use Rattle.vw_app.proofs.info.push_functions.Given as goal
 
 abbrev pub invariant-loop-function : goal.invariant-loop-function

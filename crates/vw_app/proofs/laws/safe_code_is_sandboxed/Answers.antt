@@ -3,4 +3,11 @@ use Rattle.vw_app.proofs.laws.safe_code_is_sandboxed.Goals as goal
 
 pub returns : goal.returns
 returns c =
-    safe_module (record { code = c.functions_are_code.ensures; settled = c.code_is_settled.ensures; lent = c.file_bytes_are_memory.ensures; bounded = c.segments_are_bounded.ensures })
+    safe_module (record {
+      code = c.functions_are_code.ensures;
+      settled = c.code_is_settled.ensures;
+      lent = c.file_bytes_are_memory.ensures;
+      bounded = c.segments_are_bounded.ensures;
+      sized = c.code_has_its_size.ensures;
+      posts = c.edges_are_post.ensures.are;
+    })

@@ -1,4 +1,3 @@
-use Rattle.std.proofs.Common.{arith}
 use Rattle.vw_app.specs.Lines.{name_byte}
 use Rattle.vw_app.proofs.Pieces.{each_piece, all_pieces}
 use Rattle.vw_app.proofs.lines.push_name.Goals as goal

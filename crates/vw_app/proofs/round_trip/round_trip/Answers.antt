@@ -1,4 +1,4 @@
-use Rattle.std.proofs.Common.{◌≡◌, ◌∙◌, ℕ, List, ◌++◌, take, ap}
+use Rattle.std.proofs.Common.{take}
 use Rattle.vw_app.proofs.RoundTrips.{decoded_back, goes_back, never_none, made_of}
 use Rattle.vw_app.proofs.round_trip.round_trip.Goals as goal
 
