@@ -67,7 +67,7 @@ abbrev pub byte_of : ℕ → ℕ → ℕ
 byte_of word k = word / 256 ^ k % 256
 
 -- The byte at address `base` + a after relocation: of the word that the relocation gives which changes it,
--- and else the byte before relocation.
+-- and else the byte before relocation, which is zero outside all segments.
 unfoldable pub image_byte : Contents → ℕ → (ℕ → ℕ) → ℕ → ℕ
 image_byte image base hosts a =
     option_map_or (λ r. byte_of (relocated_word base hosts r.kind) (a - r.place))

@@ -1,4 +1,4 @@
--- Relocations by their places, as a search finds them.
+-- Relocations by their places: which one stands at an address, and which bind an import.
 use Rattle.std.specs.Prelude.{◌≡◌, ℕ, Bool, true, false, ◌==◌, List, Option, option_map}
 use Rattle.std.specs.List.{find, filter}
 use Rattle.std.specs.BTreeMap.{BTreeMap, get}

@@ -37,7 +37,8 @@ unfoldable pub stands_at : List ℕ → List Segment → ℕ → List ℕ → Bo
 stands_at bytes segments a opcode =
     in_executable segments a (length opcode + 4) && spells (memory_byte bytes segments) a opcode
 
--- where the next instruction begins, and the signed displacement from there, modulo 2^64
+-- The address of the word through which such bytes jump: the displacement, signed, counts from the next
+-- instruction, modulo 2^64.
 unfoldable pub slot_behind : List ℕ → List Segment → ℕ → List ℕ → ℕ
 slot_behind bytes segments a opcode =
     let next = a + length opcode + 4 in
@@ -48,8 +49,8 @@ slot_behind bytes segments a opcode =
 unfoldable pub slot_at : List ℕ → List Segment → ℕ → Option ℕ
 slot_at bytes segments a = option_map (slot_behind bytes segments a) (find (stands_at bytes segments a) opcodes)
 
--- where a jump through a slot goes that holds this word; it is a stub's where that is an import or an address
--- of the image
+-- The stub whose slot holds this word. There is none where the word is neither an import's address nor one that
+-- counts from the load address.
 abbrev pub stub_to : ℕ → Word → Option Stub
 stub_to slot (Plain number) = None
 stub_to slot (Based address) = Some (record { slot = slot; to = Inside address })

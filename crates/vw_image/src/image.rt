@@ -121,7 +121,8 @@ impl Image {
     }
 
     /// Whether `n` bytes from an address on are in the memory of one segment with the right to read, and no
-    /// relocation changes one of them that binds an import. Takes no memory.
+    /// relocation that binds an import changes one of them. No bytes are so where the address is that of a
+    /// segment's byte. Takes no memory.
     pub fn readable(&self, a: u64, n: u64) -> bool
         ensures { result ≡ readable self.now a n }
     {
@@ -129,7 +130,7 @@ impl Image {
     }
 
     /// The bytes of the file for `n` bytes from an address on; `None` exactly where these are not in the file
-    /// part of one segment. Takes no memory.
+    /// part of one segment. No bytes are in it where the address is that of one of its bytes. Takes no memory.
     pub fn bytes_at(&self, a: u64, n: u64) -> Option<&[u8]>
         ensures { option_copied result ≡ bytes_at self.now a n }
     {

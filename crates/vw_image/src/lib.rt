@@ -1,5 +1,5 @@
-//! The image of a module: its bytes in memory, before and after relocation, and the import stubs that stand
-//! in it.
+//! The image of a module: its bytes in memory, before and after relocation, its words, and the stubs that stand
+//! in it, which jump through a word.
 #![tactic(auto)]
 
 mod image;

@@ -23,7 +23,8 @@ pub struct Stub {
 pub enum StubTo {
     /// To the import with this number.
     Import(u32),
-    /// To this address of the image, counted from the load address.
+    /// To this address, counted from the load address. Whether it is one to jump to is left to the caller: it
+    /// need not be in the image.
     Inside(u64),
 }
 

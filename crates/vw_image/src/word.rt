@@ -7,8 +7,9 @@ pub enum Word {
     Based(u64),
     /// The address of the import with this number.
     Bound(u32),
-    /// A relocation changes some of the bytes, and is not one of just these eight.
+    /// A relocation changes some of the bytes, and no relocation stands exactly there, or they are fewer than the
+    /// eight that it changes.
     Mixed,
-    /// The range is not in the memory of a segment with the right to read.
+    /// No relocation changes the bytes, and they are not in the memory of one segment with the right to read.
     Outside,
 }

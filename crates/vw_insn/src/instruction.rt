@@ -154,9 +154,10 @@ pub enum Insn {
     },
     /// ENDBR64.
     Endbr,
-    /// An instruction on XMM registers. `wide` is REX.W, which only conversions from and moves of a
-    /// general register heed. `reg` is the register, 0 to 15, of ModRM's reg field: an XMM register,
-    /// or a general one where the instruction has it there. `imm` is 0 where there is none.
+    /// An instruction on XMM registers. `wide` is REX.W, which only those heed that have a general
+    /// register or its memory as an operand: conversions from one (opcode 0F 2A) and to one (0F 2C, 0F
+    /// 2D), and moves (66 0F 6E, 66 0F 7E). `reg` is the register, 0 to 15, of ModRM's reg field: an XMM
+    /// register, or a general one where the instruction has it there. `imm` is 0 where there is none.
     Xmm {
         row: XmmRow,
         wide: bool,

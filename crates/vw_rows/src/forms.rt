@@ -64,7 +64,7 @@ pub enum Operands {
     Xmm,
 }
 
-/// How wide the operands are, and what 66 and REX.W say of it (SDM volume 2, 2.2.1.2 and 3.1.1.3).
+/// How wide the operands are, and what 66 and REX.W say of it (SDM volume 2, 2.2.1.2; volume 1, 3.6.1).
 #[derive(Clone, Copy, Debug, PartialEq, Eq)]
 pub enum Sizing {
     /// The row names no width, and ignores REX.W.
