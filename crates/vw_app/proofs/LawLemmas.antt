@@ -4,7 +4,7 @@ use Rattle.std.specs.Prelude.{nat_le, nat_lt, ◌&&◌, ◌||◌, Contains, AllP
 use Rattle.std.specs.List.{AllByRecursion, range_with_len}
 use Rattle.std.proofs.lemmas.Bool.Decides.{nat_tests}
 use Rattle.vw_insn.specs.declared.instruction.Insn.{Insn}
-use Rattle.vw_insn.specs.Effect.{Access, Way, Ordinary, Return, Unlisted}
+use Rattle.vw_insn.specs.Effect.{Access, Way, Ordinary, Return, Direct, Indirect}
 use Rattle.vw_rows.specs.Spelling.{Spells}
 use Rattle.vw_layout.specs.declared.functions.Function.{Function}
 use Rattle.vw_app.specs.World.{World, Range, IsLaidOut, IsIn, AreApart, IsBelowTop, IsHostAddress, instance_ranges, globals_range, loaded_range}
@@ -80,12 +80,14 @@ module _ (m : Module) (w : World) (top : Activation) (laid : IsLaidOut m.image m
 pub not_read : (m : Module) (w : World) (top : Activation) (way : Way) → IsLaidOut m.image m.imports w → IsFramed w top → MayDo m w top way (Reads (w.heap + 2 ^ 33 - 3) 4) → ⊥
 not_read m w top Ordinary laid framed may = may_not_read m w top laid framed may
 not_read m w top Return laid framed may = let size : ◌≡◌ {A = ℕ} 4 8 = may.1 in absurd (omega arith)
-not_read m w top Unlisted laid framed may = may
+not_read m w top Direct laid framed may = may
+not_read m w top Indirect laid framed may = may
 
 pub not_written : (m : Module) (w : World) (top : Activation) (way : Way) (a n : ℕ) → IsLaidOut m.image m.imports w → IsFramed w top → 0 < n → a < top.rsp0 + 8 → top.rsp0 < a + n → MayDo m w top way (Writes a n) → ⊥
 not_written m w top Ordinary a n laid framed some below above may = may_not_write m w top laid framed a n some below above may
 not_written m w top Return a n laid framed some below above may = may
-not_written m w top Unlisted a n laid framed some below above may = may
+not_written m w top Direct a n laid framed some below above may = may
+not_written m w top Indirect a n laid framed some below above may = may
 
 -- addresses of the host, sixteen bytes from one to the next
 hosts : ℕ → List ℕ

@@ -4,7 +4,7 @@ use Rattle.std.specs.List.{list_any}
 use Rattle.vw_bits.specs.Fields.{load}
 use Rattle.vw_insn.specs.declared.instruction.Insn.{Insn}
 use Rattle.vw_insn.specs.Words.{Registers, Flags}
-use Rattle.vw_insn.specs.Effect.{Open, Access, Write, After, Transfer, Next, To, Back, Stop, Unstated, may_trap, reads, effect}
+use Rattle.vw_insn.specs.Effect.{Open, Access, Write, After, Transfer, Next, To, Enter, Back, Stop, may_trap, reads, effect}
 use Rattle.vw_app.specs.World.{Range, World, IsWithin, is_within, touches, heap_range, stack_range, guard_range, loaded_range}
 use Rattle.vw_layout.specs.declared.functions.Function.{Function}
 use Rattle.vw_app.specs.Module.{Module, bytes_from}
@@ -138,13 +138,13 @@ abbrev pub left : World → State → After → ℕ → List Activation → Stat
 left w s after rip active =
     record { registers = after.registers; rip = rip; flags = after.flags; bytes = stored w s.bytes after.writes; active = active }
 
--- a step goes on by its transfer
+-- A step goes on by its transfer. After a call no step is defined yet, so that a run that calls is stuck there.
 abbrev pub go : World → State → Activation → List Activation → After → ℕ → Transfer → Outcome
 go w s top rest after next Next = arrive w (left w s after next (marked w top after.writes ∷ rest))
 go w s top rest after next (To to) = arrive w (left w s after to (marked w top after.writes ∷ rest))
+go w s top rest after next (Enter to) = Stuck
 go w s top rest after next (Back to) = arrive w (left w s after to rest)
 go w s top rest after next Stop = Trapped
-go w s top rest after next Unstated = Stuck
 
 module _ (m : Module) (w : World) where
   abbrev pub step_from : State → List Activation → Here → Choice → Outcome

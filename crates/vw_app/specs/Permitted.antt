@@ -1,6 +1,6 @@
 -- The events of a step, and which of them a sandbox permits.
 use Rattle.std.specs.Prelude.{◌≡◌, ℕ, ◌+◌, ◌-◌, ◌<◌, ◌≤◌, ◌⊎◌, true, if◌then◌else◌, List, [], ◌∷◌, ◌++◌, map, Contains}
-use Rattle.vw_insn.specs.Effect.{Transfer, Next, To, Back, Stop, Unstated, Way, Ordinary, Return, Unlisted, way, reads}
+use Rattle.vw_insn.specs.Effect.{Transfer, Next, To, Enter, Back, Stop, Way, Ordinary, Return, Direct, Indirect, way, reads}
 use Rattle.vw_app.specs.World.{Range, World, IsWithin, IsIn, loaded_range, heap_range, globals_range}
 use Rattle.vw_layout.specs.declared.functions.Function.{Function}
 use Rattle.vw_app.specs.Module.{Module}
@@ -15,9 +15,9 @@ pub data Event : Type 0 where
 abbrev pub target : ℕ → Transfer → List Event
 target next Next = Goes next ∷ []
 target next (To to) = Goes to ∷ []
+target next (Enter to) = Goes to ∷ []
 target next (Back to) = Goes to ∷ []
 target next Stop = []
-target next Unstated = Goes next ∷ []
 
 module _ (m : Module) (w : World) where
   -- the reads, the writes and then the transfer of the next step; one that traps has no transfer
@@ -67,7 +67,9 @@ module _ (m : Module) (w : World) where
   MayDo top Return (Reads a n) = (a ≡ top.rsp0) × (n ≡ 8)
   MayDo top Return (Writes a n) = ⊥
   MayDo top Return (Goes to) = to ≡ top.back
-  MayDo top Unlisted event = ⊥
+  -- calls are not judged yet: nothing of them is permitted, so that no code that calls is taken for safe
+  MayDo top Direct event = ⊥
+  MayDo top Indirect event = ⊥
 
   abbrev pub PermittedFrom : List Activation → Here → Event → Type 0
   PermittedFrom [] here event = ⊥

@@ -1,5 +1,7 @@
 pub mod Words
+pub mod Arithmetic
 pub mod Conditions
+pub mod XmmEffect
 pub mod Effect
 pub mod Listed
 pub mod Names
