@@ -1,0 +1,210 @@
+//! Moves, addresses and the stack.
+
+ghost use Rattle.std.specs.Prelude.{◌≡◌, ◌+◌, ◌<◌, ◌≤◌, ◌++◌, length, pos};
+ghost use Rattle.vw_insn.specs.Effect.{at_rsp, below_rsp};
+ghost use Rattle.vw_lift.specs.Lifted.{copied, set_to, mov_steps, lea_step, extend_step, exchanged, pushed, popped};
+
+use crate::operands::{bytes_in, fetch_source, leave_open, load_tmp, operand_of};
+use vw_insn::{Base, Mem, Place, Reg, Source, Width};
+use vw_stmt::{Operand, Stmt, Stmts, Var};
+
+fn at_rsp() -> Mem
+    ensures { result ≡ at_rsp }
+{
+    Mem {
+        base: Base::Reg(Reg::Rsp),
+        index: None,
+        disp: 0,
+    }
+}
+
+fn below_rsp() -> Mem
+    ensures { result ≡ below_rsp }
+{
+    Mem {
+        base: Base::Reg(Reg::Rsp),
+        index: None,
+        disp: -8,
+    }
+}
+
+fn copied(w: Width, dst: Reg, src: Var) -> Stmt
+    ensures { result ≡ copied w dst src }
+{
+    let dst = Var::Reg(dst);
+    match w {
+        Width::W64 => Stmt::Copy { dst, src },
+        Width::W32 => Stmt::Narrow {
+            dst,
+            src,
+            from: Width::W32,
+            to: Width::W64,
+            signed: false,
+        },
+        Width::W8 | Width::W16 => Stmt::Open { dst, w },
+    }
+}
+
+fn set_to(w: Width, dst: Reg, imm: i32) -> Stmt
+    ensures { result ≡ set_to w dst imm }
+{
+    let dst = Var::Reg(dst);
+    match w {
+        Width::W64 => Stmt::Set {
+            dst,
+            c: i64::from(imm).cast_unsigned(),
+        },
+        Width::W32 => Stmt::Set {
+            dst,
+            c: u64::from(imm.cast_unsigned()),
+        },
+        Width::W8 | Width::W16 => Stmt::Open { dst, w },
+    }
+}
+
+fn add_mov_to_register(stmts: &mut Stmts, w: Width, dst: Reg, source: Source)
+    requires { length stmts.old < 7 }
+    ensures list { stmts.new ≡ stmts.old ++ mov_steps w (Place.Reg dst) source }
+    ensures few { length stmts.new ≤ length stmts.old + 1 }
+{
+    match source {
+        Source::Place(Place::Reg(src)) => stmts.add(copied(w, dst, Var::Reg(src))),
+        Source::Place(Place::High(_)) => stmts.add(copied(w, dst, Var::Tmp)),
+        Source::Place(Place::Mem(mem)) => stmts.add(Stmt::Load {
+            dst: Var::Reg(dst),
+            size: bytes_in(w),
+            to: w,
+            signed: false,
+            mem,
+        }),
+        Source::Imm(imm) => stmts.add(set_to(w, dst, imm)),
+    }
+}
+
+pub fn add_mov(stmts: &mut Stmts, w: Width, dst: Place, source: Source)
+    requires { length stmts.old < 2 }
+    ensures list { stmts.new ≡ stmts.old ++ mov_steps w dst source }
+    ensures few { length stmts.new ≤ length stmts.old + 3 }
+{
+    match dst {
+        Place::Reg(reg) => add_mov_to_register(stmts, w, reg, source),
+        Place::High(_) => {
+            fetch_source(stmts, w, source);
+            leave_open(stmts, w, dst);
+        }
+        Place::Mem(mem) => {
+            fetch_source(stmts, w, source);
+            stmts.add(Stmt::Store {
+                mem,
+                size: bytes_in(w),
+                src: operand_of(source),
+            });
+        }
+    }
+}
+
+pub fn lea_step(w: Width, dst: Reg, mem: Mem) -> Stmt
+    ensures { result ≡ lea_step w dst mem }
+{
+    let dst = Var::Reg(dst);
+    match w {
+        Width::W64 => Stmt::Lea { dst, mem },
+        Width::W8 | Width::W16 | Width::W32 => Stmt::Open { dst, w },
+    }
+}
+
+pub fn extend_step(signed: bool, from: Width, to: Width, dst: Reg, src: Place) -> Stmt
+    ensures { result ≡ extend_step signed from to dst src }
+{
+    let dst = Var::Reg(dst);
+    match src {
+        Place::Mem(mem) => Stmt::Load {
+            dst,
+            size: bytes_in(from),
+            to,
+            signed,
+            mem,
+        },
+        Place::Reg(reg) => Stmt::Narrow {
+            dst,
+            src: Var::Reg(reg),
+            from,
+            to,
+            signed,
+        },
+        Place::High(_) => Stmt::Narrow {
+            dst,
+            src: Var::Tmp,
+            from,
+            to,
+            signed,
+        },
+    }
+}
+
+pub fn add_exchange(stmts: &mut Stmts, w: Width, a: Reg, b: Reg)
+    requires { length stmts.old < 2 }
+    ensures list { stmts.new ≡ stmts.old ++ exchanged w a b }
+    ensures few { length stmts.new ≤ length stmts.old + 3 }
+{
+    let first = Var::Reg(a);
+    let second = Var::Reg(b);
+    match w {
+        Width::W64 => {
+            stmts.add(Stmt::Copy {
+                dst: Var::Tmp,
+                src: first,
+            });
+            stmts.add(Stmt::Copy {
+                dst: first,
+                src: second,
+            });
+            stmts.add(Stmt::Copy {
+                dst: second,
+                src: Var::Tmp,
+            });
+        }
+        Width::W8 | Width::W16 | Width::W32 => {
+            stmts.add(Stmt::Open { dst: first, w });
+            stmts.add(Stmt::Open { dst: second, w });
+        }
+    }
+}
+
+fn add_to_rsp(minus: bool) -> Stmt
+    ensures { result ≡ Stmt.Sum (Var.Reg Reg.Rsp) (Var.Reg Reg.Rsp) (Operand.Imm (pos 8)) minus }
+{
+    let rsp = Var::Reg(Reg::Rsp);
+    Stmt::Sum {
+        dst: rsp,
+        a: rsp,
+        b: Operand::Imm(8),
+        minus,
+    }
+}
+
+pub fn push(stmts: &mut Stmts, src: Operand)
+    requires { length stmts.old < 3 }
+    ensures list { stmts.new ≡ stmts.old ++ pushed src }
+    ensures few { length stmts.new ≤ length stmts.old + 2 }
+{
+    stmts.add(Stmt::Store {
+        mem: below_rsp(),
+        size: 8,
+        src,
+    });
+    stmts.add(add_to_rsp(true));
+}
+
+pub fn pop(stmts: &mut Stmts, dst: Reg)
+    requires { length stmts.old < 3 }
+    ensures list { stmts.new ≡ stmts.old ++ popped dst }
+    ensures few { length stmts.new ≤ length stmts.old + 3 }
+{
+    stmts.add(load_tmp(Width::W64, at_rsp()));
+    stmts.add(add_to_rsp(false));
+    stmts.add(Stmt::Copy {
+        dst: Var::Reg(dst),
+        src: Var::Tmp,
+    });
+}

@@ -1,0 +1,113 @@
+//! How operands are fetched and written.
+
+ghost use Rattle.std.specs.Prelude.{◌≡◌, ◌+◌, ◌<◌, ◌≤◌, ◌++◌, length};
+ghost use Rattle.vw_insn.specs.Words.{bytes_in, register_of};
+ghost use Rattle.vw_lift.specs.Lifted.{var_of, operand_of, load_tmp, fetched, fetched_source, left_open};
+
+use vw_insn::{HighReg, Mem, Place, Reg, Source, Width};
+use vw_stmt::{Operand, Stmt, Stmts, Var};
+
+// Flags of which nothing is known.
+pub const ANY_FLAGS: Stmt = Stmt::Flags { fact: None };
+
+pub fn bytes_in(w: Width) -> u8
+    ensures { result ≡ bytes_in w }
+{
+    match w {
+        Width::W8 => 1,
+        Width::W16 => 2,
+        Width::W32 => 4,
+        Width::W64 => 8,
+    }
+}
+
+pub fn register_of(high: HighReg) -> Reg
+    ensures { result ≡ register_of high }
+{
+    match high {
+        HighReg::Ah => Reg::Rax,
+        HighReg::Ch => Reg::Rcx,
+        HighReg::Dh => Reg::Rdx,
+        HighReg::Bh => Reg::Rbx,
+    }
+}
+
+// Where an operand is found once memory was loaded.
+pub fn var_of(place: Place) -> Var
+    ensures { result ≡ var_of place }
+{
+    match place {
+        Place::Reg(reg) => Var::Reg(reg),
+        Place::High(_) | Place::Mem(_) => Var::Tmp,
+    }
+}
+
+pub fn operand_of(source: Source) -> Operand
+    ensures { result ≡ operand_of source }
+{
+    match source {
+        Source::Place(place) => Operand::Var(var_of(place)),
+        Source::Imm(imm) => Operand::Imm(imm),
+    }
+}
+
+pub fn load_tmp(w: Width, mem: Mem) -> Stmt
+    ensures { result ≡ load_tmp w mem }
+{
+    Stmt::Load {
+        dst: Var::Tmp,
+        size: bytes_in(w),
+        to: w,
+        signed: false,
+        mem,
+    }
+}
+
+// Loads an operand in memory to tmp.
+pub fn fetch(stmts: &mut Stmts, w: Width, place: Place)
+    requires { length stmts.old < 2 }
+    ensures list { stmts.new ≡ stmts.old ++ fetched w place }
+    ensures few { length stmts.new ≤ length stmts.old + 1 }
+{
+    match place {
+        Place::Reg(_) | Place::High(_) => {}
+        Place::Mem(mem) => stmts.add(load_tmp(w, mem)),
+    }
+}
+
+pub fn fetch_source(stmts: &mut Stmts, w: Width, source: Source)
+    requires { length stmts.old < 2 }
+    ensures list { stmts.new ≡ stmts.old ++ fetched_source w source }
+    ensures few { length stmts.new ≤ length stmts.old + 1 }
+{
+    match source {
+        Source::Place(place) => fetch(stmts, w, place),
+        Source::Imm(_) => {}
+    }
+}
+
+// Leaves open what is written to an operand: any number of `w` bits.
+pub fn leave_open(stmts: &mut Stmts, w: Width, place: Place)
+    requires { length stmts.old < 4 }
+    ensures list { stmts.new ≡ stmts.old ++ left_open w place }
+    ensures few { length stmts.new ≤ length stmts.old + 2 }
+{
+    match place {
+        Place::Reg(reg) => stmts.add(Stmt::Open {
+            dst: Var::Reg(reg),
+            w,
+        }),
+        Place::High(high) => stmts.add(Stmt::Open {
+            dst: Var::Reg(register_of(high)),
+            w: Width::W8,
+        }),
+        Place::Mem(mem) => {
+            stmts.add(Stmt::Open { dst: Var::Tmp, w });
+            stmts.add(Stmt::Store {
+                mem,
+                size: bytes_in(w),
+                src: Operand::Var(Var::Tmp),
+            });
+        }
+    }
+}
