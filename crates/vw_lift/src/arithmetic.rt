@@ -113,6 +113,7 @@ fn compared_at(w: Width, dst: Place, source: Source) -> Option<Compare>
     }
 }
 
+/// Adds what an operation does once its operands were fetched: flags and, but for CMP, the result.
 pub fn add_alu(stmts: &mut Stmts, op: AluOp, w: Width, dst: Place, source: Source)
     requires { length stmts.old < 3 }
     ensures list { stmts.new ≡ stmts.old ++ alu_steps op w dst source }
@@ -138,6 +139,7 @@ fn is_times_16(op: ShiftOp, w: Width, by: Count) -> bool
     }
 }
 
+/// Adds what a shift or rotate does once its operand was fetched: any flags and the result.
 pub fn add_shift(stmts: &mut Stmts, op: ShiftOp, w: Width, dst: Place, by: Count)
     requires { length stmts.old < 2 }
     ensures list { stmts.new ≡ stmts.old ++ shift_steps op w dst by }
@@ -159,6 +161,7 @@ pub fn add_shift(stmts: &mut Stmts, op: ShiftOp, w: Width, dst: Place, by: Count
     }
 }
 
+/// Adds what NOT, NEG, INC or DEC does once its operand was fetched; NOT leaves the flags.
 pub fn add_unary(stmts: &mut Stmts, op: UnaryOp, w: Width, dst: Place)
     requires { length stmts.old < 2 }
     ensures list { stmts.new ≡ stmts.old ++ unary_steps op w dst }
@@ -173,6 +176,7 @@ pub fn add_unary(stmts: &mut Stmts, op: UnaryOp, w: Width, dst: Place)
     }
 }
 
+/// Adds the results of MUL, IMUL, DIV and IDIV with one operand: ax at 8 bits, else rax and rdx.
 pub fn add_products(stmts: &mut Stmts, w: Width)
     requires { length stmts.old < 3 }
     ensures list { stmts.new ≡ stmts.old ++ products w }

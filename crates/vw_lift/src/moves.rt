@@ -81,6 +81,7 @@ fn add_mov_to_register(stmts: &mut Stmts, w: Width, dst: Reg, source: Source)
     }
 }
 
+/// Adds what MOV does; memory is loaded straight to a register.
 pub fn add_mov(stmts: &mut Stmts, w: Width, dst: Place, source: Source)
     requires { length stmts.old < 2 }
     ensures list { stmts.new ≡ stmts.old ++ mov_steps w dst source }
@@ -103,6 +104,7 @@ pub fn add_mov(stmts: &mut Stmts, w: Width, dst: Place, source: Source)
     }
 }
 
+/// What LEA does: the address at 64 bits, else any number of the width.
 pub fn lea_step(w: Width, dst: Reg, mem: Mem) -> Stmt
     ensures { result ≡ lea_step w dst mem }
 {
@@ -113,6 +115,7 @@ pub fn lea_step(w: Width, dst: Reg, mem: Mem) -> Stmt
     }
 }
 
+/// What MOVSX, MOVSXD or MOVZX does; memory is loaded straight to the register.
 pub fn extend_step(signed: bool, from: Width, to: Width, dst: Reg, src: Place) -> Stmt
     ensures { result ≡ extend_step signed from to dst src }
 {
@@ -142,6 +145,7 @@ pub fn extend_step(signed: bool, from: Width, to: Width, dst: Reg, src: Place) -
     }
 }
 
+/// Adds what XCHG of two registers does.
 pub fn add_exchange(stmts: &mut Stmts, w: Width, a: Reg, b: Reg)
     requires { length stmts.old < 2 }
     ensures list { stmts.new ≡ stmts.old ++ exchanged w a b }
@@ -183,6 +187,7 @@ fn add_to_rsp(minus: bool) -> Stmt
     }
 }
 
+/// Adds a push: the word is written 8 below rsp, which then falls by 8.
 pub fn push(stmts: &mut Stmts, src: Operand)
     requires { length stmts.old < 3 }
     ensures list { stmts.new ≡ stmts.old ++ pushed src }
@@ -196,6 +201,7 @@ pub fn push(stmts: &mut Stmts, src: Operand)
     stmts.add(add_to_rsp(true));
 }
 
+/// Adds a pop: the word at rsp is read, rsp rises by 8, and then the register is written.
 pub fn pop(stmts: &mut Stmts, dst: Reg)
     requires { length stmts.old < 3 }
     ensures list { stmts.new ≡ stmts.old ++ popped dst }

@@ -7,9 +7,10 @@ ghost use Rattle.vw_lift.specs.Lifted.{var_of, operand_of, load_tmp, fetched, fe
 use vw_insn::{HighReg, Mem, Place, Reg, Source, Width};
 use vw_stmt::{Operand, Stmt, Stmts, Var};
 
-// Flags of which nothing is known.
+/// Flags of which nothing is known.
 pub const ANY_FLAGS: Stmt = Stmt::Flags { fact: None };
 
+/// How many bytes an operand of a width has.
 pub fn bytes_in(w: Width) -> u8
     ensures { result ≡ bytes_in w }
 {
@@ -21,6 +22,7 @@ pub fn bytes_in(w: Width) -> u8
     }
 }
 
+/// The register of which a high byte is bits 8 to 15.
 pub fn register_of(high: HighReg) -> Reg
     ensures { result ≡ register_of high }
 {
@@ -32,7 +34,7 @@ pub fn register_of(high: HighReg) -> Reg
     }
 }
 
-// Where an operand is found once memory was loaded.
+/// Where an operand is found once memory was loaded.
 pub fn var_of(place: Place) -> Var
     ensures { result ≡ var_of place }
 {
@@ -42,6 +44,7 @@ pub fn var_of(place: Place) -> Var
     }
 }
 
+/// A source as an operand, once memory was loaded.
 pub fn operand_of(source: Source) -> Operand
     ensures { result ≡ operand_of source }
 {
@@ -51,6 +54,7 @@ pub fn operand_of(source: Source) -> Operand
     }
 }
 
+/// Loads a number of a width to tmp.
 pub fn load_tmp(w: Width, mem: Mem) -> Stmt
     ensures { result ≡ load_tmp w mem }
 {
@@ -63,7 +67,7 @@ pub fn load_tmp(w: Width, mem: Mem) -> Stmt
     }
 }
 
-// Loads an operand in memory to tmp.
+/// Loads an operand in memory to tmp.
 pub fn fetch(stmts: &mut Stmts, w: Width, place: Place)
     requires { length stmts.old < 2 }
     ensures list { stmts.new ≡ stmts.old ++ fetched w place }
@@ -75,6 +79,7 @@ pub fn fetch(stmts: &mut Stmts, w: Width, place: Place)
     }
 }
 
+/// Loads a source in memory to tmp.
 pub fn fetch_source(stmts: &mut Stmts, w: Width, source: Source)
     requires { length stmts.old < 2 }
     ensures list { stmts.new ≡ stmts.old ++ fetched_source w source }
@@ -86,7 +91,7 @@ pub fn fetch_source(stmts: &mut Stmts, w: Width, source: Source)
     }
 }
 
-// Leaves open what is written to an operand: any number of `w` bits.
+/// Leaves open what is written to an operand: any number of `w` bits.
 pub fn leave_open(stmts: &mut Stmts, w: Width, place: Place)
     requires { length stmts.old < 4 }
     ensures list { stmts.new ≡ stmts.old ++ left_open w place }

@@ -478,10 +478,10 @@ fn lifts_arithmetic(rt: HostRuntime) {
             ]
         )
     );
-    // popcnt cx, [rbp - 8]
+    // popcnt ecx, [rbp - 8]
     let insn = Insn::Bits {
         op: BitsOp::Popcnt,
-        w: Width::W16,
+        w: Width::W32,
         dst: Reg::Rcx,
         src: Place::Mem(SLOT),
     };
@@ -490,7 +490,7 @@ fn lifts_arithmetic(rt: HostRuntime) {
             rt.alloc(),
             insn,
             &[
-                load_tmp(2, Width::W16, SLOT),
+                load_tmp(4, Width::W32, SLOT),
                 ANY_FLAGS,
                 open(RCX, Width::W64),
                 NEXT

@@ -109,6 +109,7 @@ fn is_xmm_store(row: XmmRow) -> bool
     )
 }
 
+/// Adds the access of an XMM instruction with an operand in memory.
 pub fn add_touch(stmts: &mut Stmts, row: XmmRow, wide: bool, rm: XmmOperand)
     requires { length stmts.old < 2 }
     ensures list { stmts.new ≡ stmts.old ++ touched row wide rm }
@@ -136,6 +137,7 @@ fn open_register(stmts: &mut Stmts, wide: bool, number: u8)
     });
 }
 
+/// Adds the general register that an XMM instruction writes, where it writes one.
 pub fn add_general(stmts: &mut Stmts, row: XmmRow, wide: bool, reg: u8, rm: XmmOperand)
     requires number { reg < 16 }
     requires operand { IsXmmOperand rm }
@@ -155,6 +157,7 @@ pub fn add_general(stmts: &mut Stmts, row: XmmRow, wide: bool, reg: u8, rm: XmmO
     }
 }
 
+/// Adds any flags where an XMM instruction compares.
 pub fn add_compared(stmts: &mut Stmts, row: XmmRow)
     requires { length stmts.old < 4 }
     ensures list { stmts.new ≡ stmts.old ++ xmm_compared row }

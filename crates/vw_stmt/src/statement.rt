@@ -6,8 +6,8 @@ use crate::{Compare, Operand, Var};
 use vw_insn::{Cond, Mem, Width};
 
 /// One step of an instruction. `dst` is what it writes, and what it reads is read before. Sums are taken modulo
-/// 2^64. A result of 32 bits clears the upper half of `dst`, and one of 8 or 16 bits keeps the other bits
-/// (SDM volume 1, 3.4.1.1). A `mem` on rip counts from the next instruction.
+/// 2^64. A result of 32 bits clears the upper half of `dst`, and one of 8 or 16 bits keeps the other bits, but for
+/// that of `Open` (SDM volume 1, 3.4.1.1). A `mem` on rip counts from the next instruction.
 #[derive(Clone, Copy, Debug, PartialEq, Eq)]
 pub enum Stmt {
     /// `dst` becomes `c`.
@@ -21,7 +21,7 @@ pub enum Stmt {
         src: Var,
     },
     /// The low `from` bits of `src` extended to `to` bits, with their sign where `signed`, else with zeros (SDM
-    /// volume 2, "MOVSX/MOVSXD" and "MOVZX"). `from` is the narrower width.
+    /// volume 2, "MOVSX/MOVSXD" and "MOVZX"). `from` is 8, 16 or 32 bits, `to` 32 or 64.
     Narrow {
         dst: Var,
         src: Var,
