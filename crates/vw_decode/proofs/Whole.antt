@@ -1,5 +1,5 @@
 -- What is read is a spelling, and a spelling is read, whatever follows it.
-use Rattle.std.proofs.Common.{◌≡◌, ℕ, ◌+◌, ◌-◌, ◌≤◌, ◌==◌, Bool, true, false, cond, List, ◌++◌, length, take, drop, Option, Some, None, refl, sym, ◌∙◌, ap, subst, append_assoc, arith, inl, inr}
+use Rattle.std.proofs.Common.{◌≡◌, ℕ, ◌+◌, ◌-◌, ◌≤◌, ◌==◌, Bool, true, false, cond, List, [], ◌++◌, length, take, drop, Option, Some, None, refl, sym, ◌∙◌, ap, subst, append_assoc, arith, inl, inr}
 use Rattle.std.proofs.lemmas.Bool.{cases_lt}
 use Rattle.std.proofs.lemmas.List.{take_at, take-append-drop, length-append, length-take, length-drop, get_or-take, get_or_past}
 use Rattle.vw_insn.specs.declared.registers.Width.{Width}
@@ -166,6 +166,15 @@ no_spelling_begins a b x y i j s t e =
     let g : Found = record { row = t.row; width = t.width; parts = t.parts; rest = y } in
     let same : f ≡ g = some_is f g (sym one ∙ (ap read e ∙ two)) in
     (s.spelled ∙ (ap (λ (v : Found). bytes_of v.parts) same ∙ sym t.spelled), sym s.meant ∙ (ap (λ (v : Found). insn_of v.row v.width v.parts) same ∙ t.meant))
+
+-- no bytes are a spelling by two rows
+pub one_row : (bytes : List ℕ) (i j : Insn) (s : Spells bytes i) (t : Spells bytes j) → s.row ≡ t.row
+one_row bytes i j s t =
+    let one : read (bytes ++ []) ≡ Some (record { row = s.row; width = s.width; parts = s.parts; rest = [] }) = ap (λ (u : List ℕ). read (u ++ [])) s.spelled ∙ read_again s.parts s.row s.width [] s.laid in
+    let two : read (bytes ++ []) ≡ Some (record { row = t.row; width = t.width; parts = t.parts; rest = [] }) = ap (λ (u : List ℕ). read (u ++ [])) t.spelled ∙ read_again t.parts t.row t.width [] t.laid in
+    let f : Found = record { row = s.row; width = s.width; parts = s.parts; rest = [] } in
+    let g : Found = record { row = t.row; width = t.width; parts = t.parts; rest = [] } in
+    ap (λ (v : Found). v.row) (some_is f g (sym one ∙ two))
 
 pub same_answer : (i j : Insn) (m n : ℕ) → i ≡ j → m ≡ n → some {A = Insn × ℕ} (i, m) ≡ some {A = Insn × ℕ} (j, n)
 same_answer i j m n e d = rw (e, d) refl

@@ -45,6 +45,11 @@ abbrev pub opcode_at : List ℕ → Option (Map × ℕ × List ℕ)
 opcode_at [] = None
 opcode_at (b ∷ bs) = if b == 0x0F then second_byte bs else Some (One, b, bs)
 
+-- the first byte, and those behind it
+abbrev pub first_of : List ℕ → Option (ℕ × List ℕ)
+first_of [] = None
+first_of (b ∷ bs) = Some (b, bs)
+
 -- the byte that is ModRM where the row has one
 abbrev pub next_of : List ℕ → ℕ
 next_of [] = 0

@@ -16,3 +16,8 @@ pub fn read_is_spelling()
     ensures size { (bytes : List ℕ) (f : Found) → read bytes ≡ Some f → (1 ≤ length_found bytes f) × (length_found bytes f ≤ 15) }
     ensures only { (bytes : List ℕ) (f : Found) (n : ℕ) (insn : Insn) → read bytes ≡ Some f → n ≤ length bytes → Spells (take n bytes) insn → (insn_found f ≡ insn) × (length_found bytes f ≡ n) }
 {}
+
+/// No bytes are a spelling by two rows, of one instruction or of two.
+pub fn one_row_per_spelling()
+    ensures { (bytes : List ℕ) (i j : Insn) (s : Spells bytes i) (t : Spells bytes j) → s.row ≡ t.row }
+{}

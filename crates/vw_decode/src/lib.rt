@@ -7,7 +7,7 @@ mod laws;
 mod tail;
 
 pub use decoding::{decode, one_spelling};
-pub use laws::read_is_spelling;
+pub use laws::{one_row_per_spelling, read_is_spelling};
 
 #[cfg(test)]
 mod tests;

@@ -22,7 +22,7 @@ use Rattle.vw_rows.specs.declared.forms.Row.{Row}
 use Rattle.vw_rows.specs.declared.shape.Shape.{Shape}
 use Rattle.vw_rows.specs.Numbers.{IsBytes, signed_of, byte_of, unsigned_of}
 use Rattle.vw_rows.specs.Parts.{Modrm, Parts, mode, reg, rm, rex_r, rex_b}
-use Rattle.vw_rows.specs.Layout.{digit_of, is_register_form, key_of, has_modrm, displacement_length, immediate_length, rm_is, has_fixed, IsAddress, IsModrm, IsLaid}
+use Rattle.vw_rows.specs.Layout.{digit_of, is_register_form, key_of, has_modrm, displacement_length, immediate_length, has_fixed, IsAddress, IsModrm, IsLaid}
 use Rattle.vw_rows.specs.Lookup.{has_digit, has_form}
 use Rattle.vw_rows.specs.Shape.{register_place, memory_at, rm_place, reg_number, xmm_operand, rm_width, first_place, second_place, xmm_register, xmm_second, signed_immediate, byte_immediate, shape_of}
 use Rattle.vw_rows.specs.Meaning.{is_given, built, insn_of}
@@ -31,7 +31,7 @@ use Rattle.vw_encode.specs.declared.asked.Asked.{Asked}
 use Rattle.vw_encode.specs.declared.candidate.Choice.{Choice}
 use Rattle.vw_encode.specs.Asked.{asked, place_number, xmm_number, place_memory, xmm_memory}
 use Rattle.vw_encode.specs.Candidate.{operand_number, operand_memory, digit_or_zero, reg_field, rm_field, modrm_byte, sib_field, opcode_byte, signed_block, immediate_block, displacement_of, modrm_candidate, optional_modrm, candidate}
-use Rattle.vw_encode.specs.Normal.{Normal, IsChosen, implies, asks_first, asks_second, tells_byte, is_mov, register_first, is_xchg, is_lea, is_extend, is_register, is_memory, is_word, full_first, is_eg, is_ge, is_opcode_reg, is_xmm_form, is_rm2, reads_signed, is_iv, is_ub, is_free, has_free_reg, mode_of, scale_in, scale_of}
+use Rattle.vw_encode.specs.Normal.{Normal, IsChosen, implies, asks_first, asks_second, tells_byte, is_mov, register_first, is_xchg, is_lea, is_extend, is_register, is_memory, is_word, full_first, is_eg, is_ge, is_opcode_reg, is_xmm_form, ends_in_fa, reads_signed, is_iv, is_ub, is_opcode_byte, is_free, has_free_reg, mode_of, scale_in, scale_of}
 use Rattle.vw_encode.proofs.Told.{is_reg, is_mem, told_first, told_second, told_signed, told_byte, told_mov, told_xmm}
 use Rattle.vw_encode.proofs.Digits.{unsigned_again}
 use Rattle.vw_encode.proofs.Facts.{ModrmBytes, OptionalBytes, PartBytes, part_bytes, is_w8, word_width, Tests, tests_of}
@@ -84,7 +84,7 @@ first_reg ops.E k f w p h e t =
     rw (rm_width_is k w both.1) (rm_reg w p.rex p.modrm h (register_form f (is_register_form p.modrm) e both.0))
 first_reg ops.OpcodeReg k f w p h e t = place_reg w p.rex (p.opcode % 8 + 8 * rex_b p.rex) h
 first_reg ops.WithoutRexB k f w p h e t = refl
-first_reg ops.Rm2 k f w p h e t = refl
+first_reg ops.EndsInFa k f w p h e t = refl
 first_reg ops.Xmm k f w p h e t = refl
 
 second_reg : (o : Operands) (k : Kind) (w : Width) (p : Parts) → is_w8 w ≡ false → is_eg o ≡ true → is_reg (second_place o k w p) ≡ true
@@ -178,27 +178,24 @@ xmm_reg rex m h = rw h (omega arith)
 xmm_mem : (rex : Option ℕ) (m : Modrm) → (mode m.byte == 3) ≡ false → xmm_memory (xmm_operand rex (Some m)) ≡ memory_at rex m
 xmm_mem rex m h = rw h refl
 
-fits : (o : Operands) (k : Kind) (i : Immediate) (d : Option ℕ) (f : Form) (a : Asked) (w : Width) (p : Parts) (m : Modrm) → has_modrm o ≡ true → p.modrm ≡ Some m → Known a o k i w p → has_digit d (reg m.byte) ≡ true → (is_free o d ≡ true → reg m.byte ≡ 0) → has_fixed o p ≡ true → (is_rm2 o ≡ true → (mode m.byte == 3) ≡ true)
-    → Fits o d a p.rex m
-fits ops.None k i d f a w p m is e kn h free fixed two = absurd (false≢true is)
-fits ops.EG k i d f a w p m is e kn h free fixed two =
+fits : (o : Operands) (k : Kind) (i : Immediate) (d : Option ℕ) (f : Form) (a : Asked) (w : Width) (p : Parts) (m : Modrm) → has_modrm o ≡ true → p.modrm ≡ Some m → Known a o k i w p → has_digit d (reg m.byte) ≡ true → (is_free o d ≡ true → reg m.byte ≡ 0) → Fits o d a p.rex m
+fits ops.None k i d f a w p m is e kn h free = absurd (false≢true is)
+fits ops.EG k i d f a w p m is e kn h free =
     let one : a.first ≡ rm_place (rm_width k w) p.rex (Some m) = kn.first refl ∙ ap (λ (x : Option Modrm). rm_place (rm_width k w) p.rex x) e in
     let other : a.second ≡ register_place w p.rex (reg m.byte + 8 * rex_r p.rex) = kn.second refl ∙ ap (λ (x : Option Modrm). register_place w p.rex (reg_number p.rex x)) e in
     record { reg_is = rw other (field_r w p.rex (reg m.byte) (omega arith)); number_is = place_rm (rm_width k w) p.rex m a.first one; memory_is = place_mem (rm_width k w) p.rex m a.first one }
-fits ops.GE k i d f a w p m is e kn h free fixed two =
+fits ops.GE k i d f a w p m is e kn h free =
     let one : a.second ≡ rm_place (rm_width k w) p.rex (Some m) = kn.second refl ∙ ap (λ (x : Option Modrm). rm_place (rm_width k w) p.rex x) e in
     let other : a.first ≡ register_place w p.rex (reg m.byte + 8 * rex_r p.rex) = kn.first refl ∙ ap (λ (x : Option Modrm). register_place w p.rex (reg_number p.rex x)) e in
     record { reg_is = rw other (field_r w p.rex (reg m.byte) (omega arith)); number_is = place_rm (rm_width k w) p.rex m a.second one; memory_is = place_mem (rm_width k w) p.rex m a.second one }
-fits ops.Accumulator k i d f a w p m is e kn h free fixed two = absurd (false≢true is)
-fits ops.E k i d f a w p m is e kn h free fixed two =
+fits ops.Accumulator k i d f a w p m is e kn h free = absurd (false≢true is)
+fits ops.E k i d f a w p m is e kn h free =
     let one : a.first ≡ rm_place (rm_width k w) p.rex (Some m) = kn.first refl ∙ ap (λ (x : Option Modrm). rm_place (rm_width k w) p.rex x) e in
     record { reg_is = digit_again d (reg m.byte) (omega arith) h (λ n. free (rw n refl)); number_is = place_rm (rm_width k w) p.rex m a.first one; memory_is = place_mem (rm_width k w) p.rex m a.first one }
-fits ops.OpcodeReg k i d f a w p m is e kn h free fixed two = absurd (false≢true is)
-fits ops.WithoutRexB k i d f a w p m is e kn h free fixed two = absurd (false≢true is)
-fits ops.Rm2 k i d f a w p m is e kn h free fixed two =
-    let test : (rm m.byte == 2) ≡ true = subst (λ (x : Option Modrm). rm_is 2 x ≡ true) e fixed in
-    record { reg_is = digit_again d (reg m.byte) (omega arith) h (λ n. free (rw n refl)); number_is = λ t. sym (eqb-true (rm m.byte) 2 test); memory_is = λ t. absurd (false≢true (sym t ∙ two refl)) }
-fits ops.Xmm k i d f a w p m is e kn h free fixed two =
+fits ops.OpcodeReg k i d f a w p m is e kn h free = absurd (false≢true is)
+fits ops.WithoutRexB k i d f a w p m is e kn h free = absurd (false≢true is)
+fits ops.EndsInFa k i d f a w p m is e kn h free = absurd (false≢true is)
+fits ops.Xmm k i d f a w p m is e kn h free =
     let both = kn.xmm refl in
     let one : a.rm ≡ xmm_operand p.rex (Some m) = both.1 ∙ ap (λ (x : Option Modrm). xmm_operand p.rex x) e in
     let other : a.reg ≡ reg m.byte + 8 * rex_r p.rex = both.0 ∙ ap (λ (x : Option Modrm). reg_number p.rex x) e in
@@ -243,8 +240,7 @@ modrm_whole row w p a c true None has there laid bytes e d kn all t free = absur
 modrm_whole row w p a c true (Some m) has there laid bytes e d kn all t free =
     let found = tests-of row (key_of p) all.found in
     let digit : has_digit row.pattern.digit (reg m.byte) ≡ true = subst (λ (x : Option Modrm). has_digit row.pattern.digit (digit_of x) ≡ true) there found.digit in
-    let form : has_form row.pattern.form (mode m.byte == 3) ≡ true = subst (λ (x : Option Modrm). has_form row.pattern.form (is_register_form x) ≡ true) there found.form in
-    let fit = fits row.operands row.kind row.immediate row.pattern.digit row.pattern.form a w p m has there kn digit free all.fixed (λ two. register_form row.pattern.form (mode m.byte == 3) form (implied (is_rm2 row.operands) _ t.rm two)) in
+    let fit = fits row.operands row.kind row.immediate row.pattern.digit row.pattern.form a w p m has there kn digit free in
     ap some_modrm (modrm_again row a p.rex m c fit laid bytes e d)
 
 -- ---- the immediate
@@ -284,24 +280,29 @@ two_bytes = inl (omega arith)
 four_bytes : bounded 4
 four_bytes = inr refl
 
-imm_again : (i : Immediate) (w : Width) (a : Asked) (bs : List ℕ) → length bs ≡ immediate_length i w → IsBytes bs → (reads_signed i ≡ true → a.signed ≡ signed_immediate i bs) → (i ≡ imm.Ub → a.byte ≡ byte_immediate imm.Ub bs) → (is_iv i ≡ true → MovAsked w a bs) → take (immediate_length i w) (immediate_block i w a) ≡ bs
-imm_again imm.None w a bs e h s u v = sym (empty_list bs e)
-imm_again imm.Ib w a bs e h s u v = take_block 1 a bs e one_byte h (s refl)
-imm_again imm.Iz W8 a bs e h s u v = take_block 4 a bs e four_bytes h (s refl)
-imm_again imm.Iz W16 a bs e h s u v = take_block 2 a bs e two_bytes h (s refl)
-imm_again imm.Iz W32 a bs e h s u v = take_block 4 a bs e four_bytes h (s refl)
-imm_again imm.Iz W64 a bs e h s u v = take_block 4 a bs e four_bytes h (s refl)
-imm_again imm.Ub w a bs e h s u v = byte_at_again a.byte bs e (u refl)
-imm_again imm.Rel8 w a bs e h s u v = take_block 1 a bs e one_byte h (s refl)
-imm_again imm.Rel32 w a bs e h s u v = take_block 4 a bs e four_bytes h (s refl)
-imm_again imm.By1 w a bs e h s u v = sym (empty_list bs e)
-imm_again imm.Cl w a bs e h s u v = sym (empty_list bs e)
-imm_again imm.Iv W8 a bs e h s u v = take_block 4 a bs e four_bytes h (v refl)
-imm_again imm.Iv W16 a bs e h s u v = take_block 2 a bs e two_bytes h (v refl)
-imm_again imm.Iv W32 a bs e h s u v = take_block 4 a bs e four_bytes h (v refl)
-imm_again imm.Iv W64 a bs e h s u v =
+imm_again : (i : Immediate) (w : Width) (a : Asked) (bs : List ℕ) → length bs ≡ immediate_length i w → IsBytes bs → (reads_signed i ≡ true → a.signed ≡ signed_immediate i bs) → (i ≡ imm.Ub → a.byte ≡ byte_immediate imm.Ub bs) → (is_iv i ≡ true → MovAsked w a bs) → (is_opcode_byte i ≡ true → byte_of bs ≡ 0xFA) → take (immediate_length i w) (immediate_block i w a) ≡ bs
+imm_again imm.None w a bs e h s u v f = sym (empty_list bs e)
+imm_again imm.Ib w a bs e h s u v f = take_block 1 a bs e one_byte h (s refl)
+imm_again imm.Iz W8 a bs e h s u v f = take_block 4 a bs e four_bytes h (s refl)
+imm_again imm.Iz W16 a bs e h s u v f = take_block 2 a bs e two_bytes h (s refl)
+imm_again imm.Iz W32 a bs e h s u v f = take_block 4 a bs e four_bytes h (s refl)
+imm_again imm.Iz W64 a bs e h s u v f = take_block 4 a bs e four_bytes h (s refl)
+imm_again imm.Ub w a bs e h s u v f = byte_at_again a.byte bs e (u refl)
+imm_again imm.Rel8 w a bs e h s u v f = take_block 1 a bs e one_byte h (s refl)
+imm_again imm.Rel32 w a bs e h s u v f = take_block 4 a bs e four_bytes h (s refl)
+imm_again imm.By1 w a bs e h s u v f = sym (empty_list bs e)
+imm_again imm.Cl w a bs e h s u v f = sym (empty_list bs e)
+imm_again imm.Iv W8 a bs e h s u v f = take_block 4 a bs e four_bytes h (v refl)
+imm_again imm.Iv W16 a bs e h s u v f = take_block 2 a bs e two_bytes h (v refl)
+imm_again imm.Iv W32 a bs e h s u v f = take_block 4 a bs e four_bytes h (v refl)
+imm_again imm.Iv W64 a bs e h s u v f =
     let word : a.word ≡ unsigned_of bs = v refl in
     rw word (unsigned_again bs e h)
+imm_again imm.OpcodeByte w a bs e h s u v f = byte_at_again 0xFA bs e (sym (f refl))
+
+fixed_end : (o : Operands) (p : Parts) → ends_in_fa o ≡ true → has_fixed o p ≡ true → byte_of p.imm ≡ 0xFA
+fixed_end ops.EndsInFa p h e = eqb-true (byte_of p.imm) 0xFA e
+fixed_end _ p h e = absurd (false≢true h)
 
 -- ---- the whole
 
@@ -318,7 +319,7 @@ candidate_here row w p c laid t bytes free at =
     let is : is_opcode_reg row.operands ≡ true = implied row.pattern.plus _ t.plus plus in
     plus_first row.operands row.kind w p a.first is (kn.first (asks_opcode row.operands is))) in
     let modrm = modrm_whole row w p a c (has_modrm row.operands) p.modrm refl refl laid.modrm bytes.modrm at.mode at.scale kn laid t free in
-    let imm = imm_again row.immediate w a p.imm laid.imm bytes.imm kn.signed kn.byte (λ iv. mov_at row.kind row.immediate s w p.imm iv (implied (is_iv row.immediate) _ t.mov iv) refl refl refl) in
+    let imm = imm_again row.immediate w a p.imm laid.imm bytes.imm kn.signed kn.byte (λ iv. mov_at row.kind row.immediate s w p.imm iv (implied (is_iv row.immediate) _ t.mov iv) refl refl refl) (λ h. fixed_end row.operands p (implied (is_opcode_byte row.immediate) _ t.end h) laid.fixed) in
     same_parts (candidate row w c a) p (sym at.prefix) (sym at.rex) (same_map-≡ row.pattern.map p.map found.map) opcode modrm imm
 
 pub candidate_again : (p : Parts) (row : Row) (insn : Insn) (n : Normal p row insn) (c : Choice) → IsChosen p c → candidate row n.width c (asked insn) ≡ p

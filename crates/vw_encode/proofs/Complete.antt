@@ -1,16 +1,15 @@
 -- Each spelling of an instruction has a normal one beside it, so nothing is spelled where the search finds none.
-use Rattle.std.proofs.Common.{◌≡◌, ◌⊎◌, ℕ, zero, suc, ◌+◌, ◌*◌, ◌<◌, ◌≤◌, ◌==◌, Bool, true, false, ◌&&◌, ◌||◌, cond, ltb, List, [], ◌∷◌, ◌++◌, length, take, get_or, find, Option, None, Some, refl, sym, ◌∙◌, ap, subst, arith, inl, inr}
+use Rattle.std.proofs.Common.{◌≡◌, ◌⊎◌, ℕ, zero, suc, ◌+◌, ◌*◌, ◌<◌, ◌≤◌, ◌==◌, Bool, true, false, ◌&&◌, ◌||◌, cond, ltb, List, [], ◌∷◌, ◌++◌, length, take, get_or, find, Option, None, Some, ℤ, refl, sym, ◌∙◌, ap, subst, eq-eqb, arith, inl, inr}
 use Rattle.std.proofs.lemmas.Bool.{and_parts, cases_Bool, cases_lt, ltb-true, false≢true}
 use Rattle.std.proofs.lemmas.List.{length-take, get_or-take, get_or_past}
 use Rattle.std.specs.List.{list_all}
 use Rattle.vw_insn.specs.declared.registers.Width.{Width}
-use Rattle.vw_insn.specs.declared.registers.Width.TheVariants.{W32}
+use Rattle.vw_insn.specs.declared.registers.Width.TheVariants.{W8, W16, W32, W64}
 use Rattle.vw_insn.specs.declared.instruction.Insn.{Insn}
 use Rattle.vw_insn.specs.declared.instruction.Insn.TheVariants as insn
 use Rattle.vw_rows.specs.declared.patterns.Prefix.TheVariants.{Plain}
 use Rattle.vw_rows.specs.declared.patterns.Prefixes.TheVariants as pre
-use Rattle.vw_rows.specs.declared.patterns.Map.{Map}
-use Rattle.vw_rows.specs.declared.patterns.Map.TheVariants.{One, Two, Three}
+use Rattle.vw_rows.specs.declared.patterns.Map.TheVariants.{One}
 use Rattle.vw_rows.specs.declared.patterns.Form.TheVariants as form
 use Rattle.vw_rows.specs.declared.forms.Kind.{Kind}
 use Rattle.vw_rows.specs.declared.forms.Kind.TheVariants as kind
@@ -22,20 +21,23 @@ use Rattle.vw_rows.specs.declared.forms.Immediate.TheVariants as imm
 use Rattle.vw_rows.specs.declared.forms.Row.{Row}
 use Rattle.vw_rows.specs.declared.shape.Shape.{Shape}
 use Rattle.vw_rows.specs.Rows.{row, rows}
-use Rattle.vw_rows.specs.Lookup.{IsIn, key, matches, same_map, has_digit}
+use Rattle.vw_rows.specs.Lookup.{IsIn, key, matches, has_digit}
 use Rattle.vw_rows.specs.Numbers.{IsBytes}
 use Rattle.vw_rows.specs.Parts.{Modrm, Parts, prefix_bytes, rex_bytes, opcode_bytes, sib_bytes, modrm_bytes, bytes_of, mode, rm}
-use Rattle.vw_rows.specs.Layout.{digit_of, is_register_form, key_of, has_modrm, takes_sib, without_base, displacement_length, rm_is, has_fixed, IsModrm, IsLaid}
+use Rattle.vw_rows.specs.Layout.{digit_of, is_register_form, key_of, has_modrm, takes_sib, without_base, displacement_length, has_fixed, IsModrm, IsRex, IsLaid}
 use Rattle.vw_rows.specs.Shape.{first_place, second_place, xmm_register, xmm_second, base_at, memory_at, rm_place, rm_width, shape_of}
-use Rattle.vw_rows.specs.Meaning.{built, insn_of}
+use Rattle.vw_rows.specs.Meaning.{built, mov_immediate, insn_of}
+use Rattle.vw_insn.specs.declared.operands.Place.{Place}
 use Rattle.vw_rows.specs.Spelling.{Spells}
 use Rattle.vw_rows.proofs.Matching.{tests-of, of-tests}
 use Rattle.vw_rows.proofs.Uniqueness.{rows_all, find_is}
-use Rattle.vw_encode.specs.declared.search.Ranked.{Ranked}
+use Rattle.vw_encode.specs.declared.buffer.Spelled.{Spelled}
 use Rattle.vw_encode.proofs.Lengths.{spelled_length}
-use Rattle.vw_encode.specs.Order.{rank_of, mode_rank, PartsBefore, IsBefore, IsFirst}
-use Rattle.vw_encode.specs.Found.{FoundIn}
-use Rattle.vw_encode.specs.Normal.{Normal, Without, mode_of, scale_of, is_told, is_free, has_free_reg}
+use Rattle.vw_encode.specs.Order.{prefix_rank, rank_of, mode_rank, Then, PartsBefore, IsBefore, IsFirst}
+use Rattle.vw_encode.proofs.ReadBits.{lean_rex, lean_parts, lean_laid, lean_means, lean_tested, lean_order}
+use Rattle.vw_encode.specs.Found.{FoundIn, is_candidate}
+use Rattle.vw_encode.specs.Kinds.{kind_number, insn_number}
+use Rattle.vw_encode.specs.Normal.{Normal, Without, is_lean, mode_of, scale_of, is_told, is_free, has_free_reg}
 
 -- ---- the rows that tell all
 
@@ -98,6 +100,7 @@ nop_normal =
       are_bytes = byte_90;
       told = refl;
       free = λ h. refl;
+      lean = refl;
     }
 
 nop_built : (k : Kind) (i : Immediate) (s : Shape) → is_nop k ≡ true → built k i s ≡ insn.Nop
@@ -112,6 +115,9 @@ zero_reg m = record { byte = mode m.byte * 64 + rm m.byte; sib = m.sib; disp = m
 abbrev zeroed : Option Modrm → Option Modrm
 zeroed None = None
 zeroed (Some m) = Some (zero_reg m)
+
+abbrev with_rex : Parts → Option ℕ → Parts
+with_rex p rex = record { prefix = p.prefix; rex = rex; map = p.map; opcode = p.opcode; modrm = p.modrm; imm = p.imm }
 
 abbrev zeroed_parts : Parts → Parts
 zeroed_parts p = record { prefix = p.prefix; rex = p.rex; map = p.map; opcode = p.opcode; modrm = zeroed p.modrm; imm = p.imm }
@@ -157,10 +163,6 @@ same_place : (w : Width) (rex : Option ℕ) (o : Option Modrm) → rm_place w re
 same_place w rex None = refl
 same_place w rex (Some m) = rw (same_memory rex m, same_mode m.byte, same_rm m.byte) refl
 
-same_rm_is : (n : ℕ) (o : Option Modrm) → rm_is n (zeroed o) ≡ rm_is n o
-same_rm_is n None = refl
-same_rm_is n (Some m) = ap (λ (k : ℕ). k == n) (same_rm m.byte)
-
 -- what the row names is the same
 record Same (o : Operands) (d : Option ℕ) (k : Kind) (w : Width) (p : Parts) : Type 0 where
   first : first_place o k w (zeroed_parts p) ≡ first_place o k w p
@@ -172,7 +174,6 @@ record Same (o : Operands) (d : Option ℕ) (k : Kind) (w : Width) (p : Parts) :
 
 same_named : (o : Operands) (d : Option ℕ) (k : Kind) (w : Width) (p : Parts) → is_free o d ≡ true → Same o d k w p
 same_named ops.E None k w p h = record { first = same_place (rm_width k w) p.rex p.modrm; second = refl; register = refl; operand = refl; fixed = refl; none = refl }
-same_named ops.Rm2 None k w p h = record { first = refl; second = refl; register = refl; operand = refl; fixed = same_rm_is 2 p.modrm; none = refl }
 same_named _ _ k w p h = absurd (false≢true h)
 
 any_digit : (d : Option ℕ) (n : ℕ) → d ≡ None → has_digit d n ≡ true
@@ -232,51 +233,55 @@ zeroed_bytes p h =
 
 -- ---- the whole
 
-abbrev Nothing : (Row → Bool) → Insn → Type 0
-Nothing rs i = (r : Row) → IsIn r rows → rs r ≡ true → Without r i (λ p. Unit {0})
+abbrev Nothing : Insn → Type 0
+Nothing i = (r : Row) → IsIn r rows → is_candidate i r ≡ true → Without r i (λ p. Unit {0})
 
-abbrev in_some_map : Row → Bool
-in_some_map r = (same_map r.pattern.map One || same_map r.pattern.map Two) || same_map r.pattern.map Three
+mov_kind : (w : Width) (p : Place) (n : ℤ) (word : ℕ) → insn_number (mov_immediate w p n word) ≡ kind_number kind.MovImm
+mov_kind W8 p n word = refl
+mov_kind W16 p n word = refl
+mov_kind W32 p n word = refl
+mov_kind W64 p n word = refl
 
-one_of_three : (m : Map) → ((same_map m One || same_map m Two) || same_map m Three) ≡ true
-one_of_three One = refl
-one_of_three Two = refl
-one_of_three Three = refl
+built_kind : (k : Kind) (i : Immediate) (s : Shape) → insn_number (built k i s) ≡ kind_number k
+built_kind kind.MovImm i s = mov_kind s.w s.first s.signed s.word
+built_kind _ i s = refl
 
-plain_normal : (bytes : List ℕ) (i : Insn) (t : Spells bytes i) → is_told t.row ≡ true → digit_of t.parts.modrm ≡ 0 → Normal t.parts t.row i
-plain_normal bytes i t told e = record { width = t.width; laid = t.laid; meant = t.meant; are_bytes = subst (λ (l : List ℕ). IsBytes l) t.spelled t.are_bytes; told = told; free = λ h. e }
+-- the row of a spelling is of the instruction's kind
+spelled_kind : (bytes : List ℕ) (i : Insn) (t : Spells bytes i) → is_candidate i t.row ≡ true
+spelled_kind bytes i t =
+    eq-eqb (kind_number t.row.kind) (insn_number i) (sym (built_kind t.row.kind t.row.immediate (shape_of t.row t.width t.parts)) ∙ ap insn_number t.meant)
 
-named_normal : (bytes : List ℕ) (i : Insn) (t : Spells bytes i) → is_told t.row ≡ true → has_free_reg t.row ≡ false → Normal t.parts t.row i
-named_normal bytes i t told named = record { width = t.width; laid = t.laid; meant = t.meant; are_bytes = subst (λ (l : List ℕ). IsBytes l) t.spelled t.are_bytes; told = told; free = λ h. absurd (false≢true (sym named ∙ h)) }
+nop_candidate : (i : Insn) → i ≡ insn.Nop → is_candidate i short_nop ≡ true
+nop_candidate i e = rw e refl
 
-zeroed_normal : (bytes : List ℕ) (i : Insn) (t : Spells bytes i) → is_told t.row ≡ true → has_free_reg t.row ≡ true → Normal (zeroed_parts t.parts) t.row i
-zeroed_normal bytes i t told free = record {
-  width = t.width;
-  laid = zeroed_laid t.parts t.row t.width t.laid free;
-  meant = zeroed_means t.parts t.row t.width free ∙ t.meant;
-  are_bytes = zeroed_bytes t.parts (subst (λ (l : List ℕ). IsBytes l) t.spelled t.are_bytes);
-  told = told;
-  free = λ h. zero_digit t.parts.modrm;
-}
+-- ---- the normal spelling beside a spelling
 
-told_spelled : (bytes : List ℕ) (i : Insn) (t : Spells bytes i) → is_told t.row ≡ true → Without t.row i (λ p. Unit {0}) → ⊥
-told_spelled bytes i t told none = elim (cases_Bool (has_free_reg t.row)) [
-  | inl free ↦ none (zeroed_parts t.parts) (zeroed_normal bytes i t told free) tt
-  | inr named ↦ none t.parts (named_normal bytes i t told named) tt
-]
+record Said (p : Parts) (r : Row) (w : Width) (i : Insn) : Type 0 where
+  laid : IsLaid p r w
+  meant : insn_of r w p ≡ i
+  are_bytes : IsBytes (bytes_of p)
 
-nop_is : (bytes : List ℕ) (i : Insn) (t : Spells bytes i) → is_long_nop t.row ≡ true → Normal nop_parts short_nop i
-nop_is bytes i t nop =
-    let is : i ≡ insn.Nop = sym t.meant ∙ nop_built t.row.kind t.row.immediate (shape_of t.row t.width t.parts) (nop_kind t.row nop) in
-    subst (λ (x : Insn). Normal nop_parts short_nop x) (sym is) nop_normal
+said : (bytes : List ℕ) (i : Insn) (t : Spells bytes i) → Said t.parts t.row t.width i
+said bytes i t = record { laid = t.laid; meant = t.meant; are_bytes = subst (λ (l : List ℕ). IsBytes l) t.spelled t.are_bytes }
 
-pub none_spelled : (i : Insn) → Nothing in_some_map i → (bytes : List ℕ) → Spells bytes i → ⊥
-none_spelled i none bytes t = elim (told_or_nop t.row t.laid.listed) [
-  | inl nop ↦ none short_nop nop_normal.laid.listed refl nop_parts (nop_is bytes i t nop) tt
-  | inr told ↦ told_spelled bytes i t told (none t.row t.laid.listed (one_of_three t.row.pattern.map))
-]
+no_bytes : IsBytes []
+no_bytes i = omega arith
 
--- ---- the first
+rex_is_byte : (l : Option ℕ) → IsRex l → IsBytes (rex_bytes l)
+rex_is_byte None h = no_bytes
+rex_is_byte (Some n) h = one_more_byte (0x40 + n) [] (omega arith) no_bytes
+
+lean_bytes : (p : Parts) (l : Option ℕ) → IsRex l → IsBytes (bytes_of p) → IsBytes (prefix_bytes p.prefix ++ (rex_bytes l ++ (opcode_bytes p.map p.opcode ++ (modrm_bytes p.modrm ++ p.imm))))
+lean_bytes p l rex h =
+    let after_rex = opcode_bytes p.map p.opcode ++ (modrm_bytes p.modrm ++ p.imm) in
+    let a = right_bytes (prefix_bytes p.prefix) (rex_bytes p.rex ++ after_rex) h in
+    let b = right_bytes (rex_bytes p.rex) after_rex a in
+    both_bytes (prefix_bytes p.prefix) (rex_bytes l ++ after_rex) (left_bytes (prefix_bytes p.prefix) (rex_bytes p.rex ++ after_rex) h) (both_bytes (rex_bytes l) after_rex (rex_is_byte l rex) b)
+
+lean_said : (p : Parts) (r : Row) (w : Width) (i : Insn) → Said p r w i → Said (lean_parts r p) r w i
+lean_said p r w i s =
+    let laid = lean_laid p r w s.laid in
+    record { laid = laid; meant = lean_means p r w s.laid ∙ s.meant; are_bytes = lean_bytes p (lean_rex r p.rex) laid.rex s.are_bytes }
 
 same_scale : (o : Option Modrm) → scale_of (zeroed o) ≡ scale_of o
 same_scale None = refl
@@ -286,15 +291,99 @@ same_mode_of : (o : Option Modrm) → mode_of (zeroed o) ≡ mode_of o
 same_mode_of None = refl
 same_mode_of (Some m) = same_mode m.byte
 
+-- the same bits of REX, or fewer
+same_or_less : (p : Parts) (l : Option ℕ) → (l ≡ p.rex) ⊎ (rank_of l < rank_of p.rex) → (with_rex p l ≡ p) ⊎ PartsBefore (with_rex p l) p
+same_or_less p l (inl e) = inl (rw e refl)
+same_or_less p l (inr lt) = inr (inr (refl, inl lt))
+
 zeroed_before : (p : Parts) → 0 < digit_of p.modrm → PartsBefore (zeroed_parts p) p
 zeroed_before p lt = inr (refl, inr (refl, inr (ap rank_of (same_scale p.modrm), inr (ap mode_rank (same_mode_of p.modrm), rw (zero_digit p.modrm) lt))))
 
-before_zeroed : (q p : Parts) → PartsBefore q (zeroed_parts p) → PartsBefore q p
-before_zeroed q p (inl lt) = inl lt
-before_zeroed q p (inr (e, inl lt)) = inr (e, inl lt)
-before_zeroed q p (inr (e, inr (d, inl lt))) = inr (e, inr (d, inl (rw (← same_scale p.modrm) lt)))
-before_zeroed q p (inr (e, inr (d, inr (c, inl lt)))) = inr (e, inr (d, inr (c ∙ ap rank_of (same_scale p.modrm), inl (rw (← same_mode_of p.modrm) lt))))
-before_zeroed q p (inr (e, inr (d, inr (c, inr (b, lt))))) = absurd (let none = zero_digit p.modrm in omega arith)
+then_trans : (a b c : ℕ) (X Y Z : Type 0) → (X → Y → Z) → Then a b X → Then b c Y → Then a c Z
+then_trans a b c X Y Z f (inl h) (inl g) = inl (omega arith)
+then_trans a b c X Y Z f (inl h) (inr g) = inl (let e = g.0 in omega arith)
+then_trans a b c X Y Z f (inr h) (inl g) = inl (let e = h.0 in omega arith)
+then_trans a b c X Y Z f (inr h) (inr g) = inr (h.0 ∙ g.0, f h.1 g.1)
+
+abbrev ByDigit : Parts → Parts → Type 0
+ByDigit p q = digit_of p.modrm < digit_of q.modrm
+
+abbrev ByMode : Parts → Parts → Type 0
+ByMode p q = Then (mode_rank (mode_of p.modrm)) (mode_rank (mode_of q.modrm)) (ByDigit p q)
+
+abbrev ByScale : Parts → Parts → Type 0
+ByScale p q = Then (rank_of (scale_of p.modrm)) (rank_of (scale_of q.modrm)) (ByMode p q)
+
+abbrev ByRex : Parts → Parts → Type 0
+ByRex p q = Then (rank_of p.rex) (rank_of q.rex) (ByScale p q)
+
+by_digit : (p q r : Parts) → ByDigit p q → ByDigit q r → ByDigit p r
+by_digit p q r h g = omega arith
+
+by_mode : (p q r : Parts) → ByMode p q → ByMode q r → ByMode p r
+by_mode p q r h g = then_trans (mode_rank (mode_of p.modrm)) (mode_rank (mode_of q.modrm)) (mode_rank (mode_of r.modrm)) (ByDigit p q) (ByDigit q r) (ByDigit p r) (by_digit p q r) h g
+
+by_scale : (p q r : Parts) → ByScale p q → ByScale q r → ByScale p r
+by_scale p q r h g = then_trans (rank_of (scale_of p.modrm)) (rank_of (scale_of q.modrm)) (rank_of (scale_of r.modrm)) (ByMode p q) (ByMode q r) (ByMode p r) (by_mode p q r) h g
+
+by_rex : (p q r : Parts) → ByRex p q → ByRex q r → ByRex p r
+by_rex p q r h g = then_trans (rank_of p.rex) (rank_of q.rex) (rank_of r.rex) (ByScale p q) (ByScale q r) (ByScale p r) (by_scale p q r) h g
+
+before_trans : (p q r : Parts) → PartsBefore p q → PartsBefore q r → PartsBefore p r
+before_trans p q r h g = then_trans (prefix_rank p.prefix) (prefix_rank q.prefix) (prefix_rank r.prefix) (ByRex p q) (ByRex q r) (ByRex p r) (by_rex p q r) h g
+
+-- a normal spelling by the row, which is this one or comes before it
+record Beside (p : Parts) (r : Row) (i : Insn) : Type 0 where
+  parts : Parts
+  normal : Normal parts r i
+  order : (parts ≡ p) ⊎ PartsBefore parts p
+
+as_normal : (p : Parts) (r : Row) (w : Width) (i : Insn) → Said p r w i → is_told r ≡ true → is_lean r p.rex ≡ true → (has_free_reg r ≡ true → digit_of p.modrm ≡ 0) → Normal p r i
+as_normal p r w i s told lean free = record { width = w; laid = s.laid; meant = s.meant; are_bytes = s.are_bytes; told = told; free = free; lean = lean }
+
+zeroed_said : (p : Parts) (r : Row) (w : Width) (i : Insn) → Said p r w i → has_free_reg r ≡ true → Said (zeroed_parts p) r w i
+zeroed_said p r w i s free = record { laid = zeroed_laid p r w s.laid free; meant = zeroed_means p r w free ∙ s.meant; are_bytes = zeroed_bytes p s.are_bytes }
+
+then_before : (p q r : Parts) → PartsBefore p q → (q ≡ r) ⊎ PartsBefore q r → (p ≡ r) ⊎ PartsBefore p r
+then_before p q r h (inl e) = inr (subst (λ (x : Parts). PartsBefore p x) e h)
+then_before p q r h (inr g) = inr (before_trans p q r h g)
+
+beside_said : (p : Parts) (r : Row) (w : Width) (i : Insn) → Said p r w i → is_told r ≡ true → Beside p r i
+beside_said p r w i s told =
+    let lean = lean_said p r w i s in
+    let test = lean_tested p r w s.laid in
+    let order = same_or_less p (lean_rex r p.rex) (lean_order p r w s.laid) in
+    elim (cases_Bool (has_free_reg r)) [
+      | inr named ↦ record { parts = lean_parts r p; normal = as_normal (lean_parts r p) r w i lean told test (λ h. absurd (false≢true (sym named ∙ h))); order = order }
+      | inl free ↦ elim (cases_lt 0 (digit_of p.modrm)) [
+        | inr le ↦ record { parts = lean_parts r p; normal = as_normal (lean_parts r p) r w i lean told test (λ h. omega arith); order = order }
+        | inl lt ↦ record {
+          parts = zeroed_parts (lean_parts r p);
+          normal = as_normal (zeroed_parts (lean_parts r p)) r w i (zeroed_said (lean_parts r p) r w i lean free) told test (λ h. zero_digit p.modrm);
+          order = then_before (zeroed_parts (lean_parts r p)) (lean_parts r p) p (zeroed_before (lean_parts r p) lt) order;
+        }
+      ]
+    ]
+
+beside : (bytes : List ℕ) (i : Insn) (t : Spells bytes i) → is_told t.row ≡ true → Beside t.parts t.row i
+beside bytes i t told = beside_said t.parts t.row t.width i (said bytes i t) told
+
+told_spelled : (bytes : List ℕ) (i : Insn) (t : Spells bytes i) → is_told t.row ≡ true → Without t.row i (λ p. Unit {0}) → ⊥
+told_spelled bytes i t told none = (let b = beside bytes i t told in none b.parts b.normal tt)
+
+is_nop_insn : (bytes : List ℕ) (i : Insn) (t : Spells bytes i) → is_long_nop t.row ≡ true → i ≡ insn.Nop
+is_nop_insn bytes i t nop = sym t.meant ∙ nop_built t.row.kind t.row.immediate (shape_of t.row t.width t.parts) (nop_kind t.row nop)
+
+nop_is : (bytes : List ℕ) (i : Insn) (t : Spells bytes i) → is_long_nop t.row ≡ true → Normal nop_parts short_nop i
+nop_is bytes i t nop = subst (λ (x : Insn). Normal nop_parts short_nop x) (sym (is_nop_insn bytes i t nop)) nop_normal
+
+pub none_spelled : (i : Insn) → Nothing i → (bytes : List ℕ) → Spells bytes i → ⊥
+none_spelled i none bytes t = elim (told_or_nop t.row t.laid.listed) [
+  | inl nop ↦ none short_nop nop_normal.laid.listed (nop_candidate i (is_nop_insn bytes i t nop)) nop_parts (nop_is bytes i t nop) tt
+  | inr told ↦ told_spelled bytes i t told (none t.row t.laid.listed (spelled_kind bytes i t))
+]
+
+-- ---- the first
 
 pub IsBytes-take : (n : ℕ) (bytes : List ℕ) → IsBytes bytes → IsBytes (take n bytes)
 IsBytes-take n bytes h i =
@@ -303,40 +392,43 @@ IsBytes-take n bytes h i =
       | inr le ↦ rw (get_or_past (take n bytes) i 0 (omega (arith, length-take n bytes))) (omega arith)
     ]
 
-abbrev pub found_spells : (f : Ranked) (i : Insn) → FoundIn f in_some_map i → Spells (take f.spelled.len f.spelled.bytes) i
-found_spells f i g = record {
+abbrev pub found_spells : (s : Spelled) (i : Insn) → FoundIn s i → Spells (take s.len s.bytes) i
+found_spells s i g = record {
   parts = g.best.parts;
   row = g.row;
   width = g.best.width;
   laid = g.best.made.laid;
   meant = g.best.made.meant;
   spelled = g.best.made.holds.taken;
-  are_bytes = IsBytes-take f.spelled.len f.spelled.bytes g.best.made.holds.are_bytes;
+  are_bytes = IsBytes-take s.len s.bytes g.best.made.holds.are_bytes;
 }
 
-abbrev Later : (f : Ranked) (i : Insn) → FoundIn f in_some_map i → (other : List ℕ) → Spells other i → Type 0
-Later f i g other t = (other ≡ take f.spelled.len f.spelled.bytes) ⊎ IsBefore (found_spells f i g) t
+abbrev Later : (s : Spelled) (i : Insn) → FoundIn s i → (other : List ℕ) → Spells other i → Type 0
+Later s i g other t = (other ≡ take s.len s.bytes) ⊎ IsBefore (found_spells s i g) t
 
-parts_later : (f : Ranked) (i : Insn) (g : FoundIn f in_some_map i) (other : List ℕ) (t : Spells other i) → t.row ≡ g.row → (t.parts ≡ g.best.parts) ⊎ PartsBefore g.best.parts t.parts → Later f i g other t
-parts_later f i g other t e (inl is) = inl (t.spelled ∙ (ap bytes_of is ∙ sym g.best.made.holds.taken))
-parts_later f i g other t e (inr before) = inr (inr (ap (λ (r : Row). r.number) (sym e), before))
+parts_later : (s : Spelled) (i : Insn) (g : FoundIn s i) (other : List ℕ) (t : Spells other i) → t.row ≡ g.row → (t.parts ≡ g.best.parts) ⊎ PartsBefore g.best.parts t.parts → Later s i g other t
+parts_later s i g other t e (inl is) = inl (t.spelled ∙ (ap bytes_of is ∙ sym g.best.made.holds.taken))
+parts_later s i g other t e (inr before) = inr (inr (ap (λ (r : Row). r.number) (sym e), before))
 
-same_row_later : (f : Ranked) (i : Insn) (g : FoundIn f in_some_map i) (other : List ℕ) (t : Spells other i) → is_told t.row ≡ true → t.row ≡ g.row → Later f i g other t
-same_row_later f i g other t told e = elim (cases_Bool (has_free_reg t.row)) [
-  | inr named ↦ parts_later f i g other t e (g.best.first t.parts (subst (λ (r : Row). Normal t.parts r i) e (named_normal other i t told named)) tt)
-  | inl free ↦ elim (cases_lt 0 (digit_of t.parts.modrm)) [
-    | inr le ↦ parts_later f i g other t e (g.best.first t.parts (subst (λ (r : Row). Normal t.parts r i) e (plain_normal other i t told (omega arith))) tt)
-    | inl lt ↦ parts_later f i g other t e (inr (elim (g.best.first (zeroed_parts t.parts) (subst (λ (r : Row). Normal (zeroed_parts t.parts) r i) e (zeroed_normal other i t told free)) tt) [
-      | inl is ↦ subst (λ (q : Parts). PartsBefore q t.parts) is (zeroed_before t.parts lt)
-      | inr before ↦ before_zeroed g.best.parts t.parts before
-    ]))
-  ]
-]
+first_beside : (f q p : Parts) → (q ≡ f) ⊎ PartsBefore f q → (q ≡ p) ⊎ PartsBefore q p → (p ≡ f) ⊎ PartsBefore f p
+first_beside f q p (inl e) (inl d) = inl (sym d ∙ e)
+first_beside f q p (inl e) (inr h) = inr (subst (λ (x : Parts). PartsBefore x p) e h)
+first_beside f q p (inr h) g = then_later f q p h g
+  where
+    then_later : (f q p : Parts) → PartsBefore f q → (q ≡ p) ⊎ PartsBefore q p → (p ≡ f) ⊎ PartsBefore f p
+    then_later f q p h (inl e) = inr (subst (λ (x : Parts). PartsBefore f x) e h)
+    then_later f q p h (inr g) = inr (before_trans f q p h g)
 
-nop_later : (f : Ranked) (i : Insn) (g : FoundIn f in_some_map i) (other : List ℕ) (t : Spells other i) → is_long_nop t.row ≡ true → Later f i g other t
-nop_later f i g other t nop =
+same_row_later : (s : Spelled) (i : Insn) (g : FoundIn s i) (other : List ℕ) (t : Spells other i) → is_told t.row ≡ true → t.row ≡ g.row → Later s i g other t
+same_row_later s i g other t told e =
+    let b = beside other i t told in
+    let later = g.best.first b.parts (subst (λ (r : Row). Normal b.parts r i) e b.normal) tt in
+    parts_later s i g other t e (first_beside g.best.parts b.parts t.parts later b.order)
+
+nop_later : (s : Spelled) (i : Insn) (g : FoundIn s i) (other : List ℕ) (t : Spells other i) → is_long_nop t.row ≡ true → Later s i g other t
+nop_later s i g other t nop =
     let more = long_nop_number t.row t.laid.listed nop in
-    elim (g.later short_nop nop_normal.laid.listed refl) [
+    elim (g.later short_nop nop_normal.laid.listed (nop_candidate i (is_nop_insn other i t nop))) [
       | inl is ↦ (let own : short_nop.number ≡ g.row.number = ap (λ (r : Row). r.number) is in inr (inl (omega arith)))
       | inr rest ↦ elim rest [
         | inl less ↦ inr (inl (omega arith))
@@ -344,13 +436,13 @@ nop_later f i g other t nop =
       ]
     ]
 
-pub first_spelled : (f : Ranked) (i : Insn) → FoundIn f in_some_map i → IsFirst (take f.spelled.len f.spelled.bytes) i
-first_spelled f i g = record {
-  spelled = found_spells f i g;
+pub first_spelled : (s : Spelled) (i : Insn) → FoundIn s i → IsFirst (take s.len s.bytes) i
+first_spelled s i g = record {
+  spelled = found_spells s i g;
   first = λ other t. elim (told_or_nop t.row t.laid.listed) [
-    | inl nop ↦ nop_later f i g other t nop
-    | inr told ↦ elim (g.later t.row t.laid.listed (one_of_three t.row.pattern.map)) [
-      | inl is ↦ same_row_later f i g other t told is
+    | inl nop ↦ nop_later s i g other t nop
+    | inr told ↦ elim (g.later t.row t.laid.listed (spelled_kind other i t)) [
+      | inl is ↦ same_row_later s i g other t told is
       | inr rest ↦ elim rest [
         | inl less ↦ inr (inl less)
         | inr none ↦ absurd (told_spelled other i t told none)
@@ -359,11 +451,11 @@ first_spelled f i g = record {
   ];
 }
 
-pub found_zeros : (f : Ranked) (i : Insn) → FoundIn f in_some_map i → (k : ℕ) → f.spelled.len ≤ k → get_or f.spelled.bytes k 0 ≡ 0
-found_zeros f i g k le = g.best.made.holds.zeros k le
+pub found_zeros : (s : Spelled) (i : Insn) → FoundIn s i → (k : ℕ) → s.len ≤ k → get_or s.bytes k 0 ≡ 0
+found_zeros s i g k le = g.best.made.holds.zeros k le
 
-pub found_size : (f : Ranked) (i : Insn) → FoundIn f in_some_map i → (1 ≤ f.spelled.len) × (f.spelled.len ≤ 15)
-found_size f i g =
+pub found_size : (s : Spelled) (i : Insn) → FoundIn s i → (1 ≤ s.len) × (s.len ≤ 15)
+found_size s i g =
     let long = spelled_length g.best.parts g.row g.best.width g.best.made.laid in
-    let same : length (take f.spelled.len f.spelled.bytes) ≡ length (bytes_of g.best.parts) = ap length g.best.made.holds.taken in
-    (omega (arith, length-take f.spelled.len f.spelled.bytes, long.0), g.best.made.holds.fits)
+    let same : length (take s.len s.bytes) ≡ length (bytes_of g.best.parts) = ap length g.best.made.holds.taken in
+    (omega (arith, length-take s.len s.bytes, long.0), g.best.made.holds.fits)

@@ -10,7 +10,7 @@ use Rattle.vw_rows.specs.Layout.{width_at, has_modrm, takes_sib, has_sib, IsModr
 use Rattle.vw_rows.specs.Meaning.{built, insn_of}
 use Rattle.vw_encode.specs.declared.candidate.Choice.{Choice}
 use Rattle.vw_encode.specs.Asked.{asked}
-use Rattle.vw_encode.specs.Normal.{Normal, IsChosen, Without, mode_of, scale_in, scale_of, shape_asked}
+use Rattle.vw_encode.specs.Normal.{Normal, IsChosen, Without, is_lean, mode_of, scale_in, scale_of, shape_asked}
 use Rattle.vw_encode.proofs.Facts.{OptionalBytes, part_bytes, mode_below, scale_below}
 use Rattle.vw_encode.specs.Candidate.{candidate}
 use Rattle.vw_encode.proofs.Told.{may_be}
@@ -81,6 +81,10 @@ one_scale row insn prefix rex scale here before p n at = elim (less_or_is (scale
   | inl lt ↦ before p n (at.0, at.1, lt)
   | inr is ↦ here p n (at.0, at.1, is, with_sib p row insn scale n is)
 ]
+
+-- a REX that the row does not read is in no normal spelling
+pub not_lean : (row : Row) (insn : Insn) (prefix : Prefix) (bits : ℕ) → is_lean row (Some bits) ≡ false → Without row insn (λ p. (p.prefix ≡ prefix) × (p.rex ≡ Some bits))
+not_lean row insn prefix bits miss p n at = (let lean : is_lean row (Some bits) ≡ true = subst (λ (o : Option ℕ). is_lean row o ≡ true) at.1 n.lean in false≢true (sym miss ∙ lean))
 
 -- all scales
 pub all_scales : (row : Row) (insn : Insn) (prefix : Prefix) (rex : Option ℕ) (scale : ℕ) → 4 ≤ scale → Without row insn (λ p. (p.prefix ≡ prefix) × (p.rex ≡ rex) × IfSome (scale_of p.modrm) (λ s. s < scale)) → Without row insn (λ p. (p.prefix ≡ prefix) × (p.rex ≡ rex))

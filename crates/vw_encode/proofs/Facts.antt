@@ -12,7 +12,7 @@ use Rattle.vw_rows.specs.declared.forms.Row.{Row}
 use Rattle.vw_rows.specs.Numbers.{IsBytes}
 use Rattle.vw_rows.specs.Parts.{Modrm, Parts, prefix_bytes, rex_bytes, opcode_bytes, sib_bytes, modrm_bytes, bytes_of, rex_w}
 use Rattle.vw_rows.specs.Layout.{variable_width, wide_width, width_at, IsLaid}
-use Rattle.vw_encode.specs.Normal.{Normal, is_word, mode_of, scale_in, scale_of, first_told, first_full, second_told, second_register, second_memory, signed_told, mov_told, byte_told, xmm_told, plus_told, rm_told, is_told}
+use Rattle.vw_encode.specs.Normal.{Normal, is_word, mode_of, scale_in, scale_of, first_told, first_full, second_told, second_register, second_memory, signed_told, mov_told, byte_told, xmm_told, plus_told, end_told, is_told}
 
 -- ---- bytes of the parts
 
@@ -125,18 +125,18 @@ pub record Tests (r : Row) : Type 0 where
   pub byte : byte_told r ≡ true
   pub xmm : xmm_told r ≡ true
   pub plus : plus_told r ≡ true
-  pub rm : rm_told r ≡ true
+  pub end : end_told r ≡ true
 
 pub tests_of : (r : Row) → is_told r ≡ true → Tests r
 tests_of r h =
-    let a = and_parts (first_told r) (first_full r && (second_told r && (second_register r && (second_memory r && (signed_told r && (mov_told r && (byte_told r && (xmm_told r && (plus_told r && rm_told r))))))))) h in
-    let b = and_parts (first_full r) (second_told r && (second_register r && (second_memory r && (signed_told r && (mov_told r && (byte_told r && (xmm_told r && (plus_told r && rm_told r)))))))) a.1 in
-    let c = and_parts (second_told r) (second_register r && (second_memory r && (signed_told r && (mov_told r && (byte_told r && (xmm_told r && (plus_told r && rm_told r))))))) b.1 in
-    let d = and_parts (second_register r) (second_memory r && (signed_told r && (mov_told r && (byte_told r && (xmm_told r && (plus_told r && rm_told r)))))) c.1 in
-    let e = and_parts (second_memory r) (signed_told r && (mov_told r && (byte_told r && (xmm_told r && (plus_told r && rm_told r))))) d.1 in
-    let f = and_parts (signed_told r) (mov_told r && (byte_told r && (xmm_told r && (plus_told r && rm_told r)))) e.1 in
-    let g = and_parts (mov_told r) (byte_told r && (xmm_told r && (plus_told r && rm_told r))) f.1 in
-    let i = and_parts (byte_told r) (xmm_told r && (plus_told r && rm_told r)) g.1 in
-    let j = and_parts (xmm_told r) (plus_told r && rm_told r) i.1 in
-    let k = and_parts (plus_told r) (rm_told r) j.1 in
-    record { first = a.0; full = b.0; second = c.0; register = d.0; memory = e.0; signed = f.0; mov = g.0; byte = i.0; xmm = j.0; plus = k.0; rm = k.1 }
+    let a = and_parts (first_told r) (first_full r && (second_told r && (second_register r && (second_memory r && (signed_told r && (mov_told r && (byte_told r && (xmm_told r && (plus_told r && end_told r))))))))) h in
+    let b = and_parts (first_full r) (second_told r && (second_register r && (second_memory r && (signed_told r && (mov_told r && (byte_told r && (xmm_told r && (plus_told r && end_told r)))))))) a.1 in
+    let c = and_parts (second_told r) (second_register r && (second_memory r && (signed_told r && (mov_told r && (byte_told r && (xmm_told r && (plus_told r && end_told r))))))) b.1 in
+    let d = and_parts (second_register r) (second_memory r && (signed_told r && (mov_told r && (byte_told r && (xmm_told r && (plus_told r && end_told r)))))) c.1 in
+    let e = and_parts (second_memory r) (signed_told r && (mov_told r && (byte_told r && (xmm_told r && (plus_told r && end_told r))))) d.1 in
+    let f = and_parts (signed_told r) (mov_told r && (byte_told r && (xmm_told r && (plus_told r && end_told r)))) e.1 in
+    let g = and_parts (mov_told r) (byte_told r && (xmm_told r && (plus_told r && end_told r))) f.1 in
+    let i = and_parts (byte_told r) (xmm_told r && (plus_told r && end_told r)) g.1 in
+    let j = and_parts (xmm_told r) (plus_told r && end_told r) i.1 in
+    let k = and_parts (plus_told r) (end_told r) j.1 in
+    record { first = a.0; full = b.0; second = c.0; register = d.0; memory = e.0; signed = f.0; mov = g.0; byte = i.0; xmm = j.0; plus = k.0; end = k.1 }

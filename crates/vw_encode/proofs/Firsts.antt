@@ -45,7 +45,7 @@ reg_octal ops.Accumulator d a = digit_octal d
 reg_octal ops.E d a = digit_octal d
 reg_octal ops.OpcodeReg d a = digit_octal d
 reg_octal ops.WithoutRexB d a = digit_octal d
-reg_octal ops.Rm2 d a = digit_octal d
+reg_octal ops.EndsInFa d a = digit_octal d
 reg_octal ops.Xmm d a = omega arith
 
 base_octal : (b : Base) → base_field b < 8

@@ -34,6 +34,7 @@ immediate_bound imm.Rel32 = 4
 immediate_bound imm.By1 = 0
 immediate_bound imm.Cl = 0
 immediate_bound imm.Iv = 8
+immediate_bound imm.OpcodeByte = 1
 
 immediate_within : (i : Immediate) (w : Width) → leb (immediate_length i w) (immediate_bound i) ≡ true
 immediate_within imm.None w = refl
@@ -51,6 +52,7 @@ immediate_within imm.Iv W8 = refl
 immediate_within imm.Iv W16 = refl
 immediate_within imm.Iv W32 = refl
 immediate_within imm.Iv W64 = refl
+immediate_within imm.OpcodeByte w = refl
 
 -- ModRM, SIB and displacement
 abbrev modrm_size : Bool → ℕ

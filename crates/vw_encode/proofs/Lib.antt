@@ -8,5 +8,6 @@ mod Excluded
 mod Fields
 mod Candidates
 mod Rows
+mod ReadBits
 mod Complete
 mod Firsts

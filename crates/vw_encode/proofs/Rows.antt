@@ -1,6 +1,6 @@
 -- The rows that the search has passed.
-use Rattle.std.proofs.Common.{◌≡◌, ◌⊎◌, ℕ, zero, suc, ◌+◌, ◌<◌, ◌≤◌, Bool, true, false, ◌&&◌, ◌||◌, leb, List, [], ◌∷◌, ◌++◌, length, take, get_or, filter, Option, None, Some, MatchOption, refl, sym, ◌∙◌, ap, subst, arith, inl, inr}
-use Rattle.std.proofs.lemmas.Bool.{and_parts, cases_Bool, cases_lt, leb-true, le-leb, false≢true}
+use Rattle.std.proofs.Common.{◌≡◌, ◌⊎◌, ℕ, zero, suc, ◌+◌, ◌<◌, ◌≤◌, ◌==◌, Bool, true, false, ◌&&◌, leb, List, [], ◌∷◌, ◌++◌, length, take, get_or, filter, Option, None, Some, MatchOption, refl, sym, ap, subst, arith, inl, inr}
+use Rattle.std.proofs.lemmas.Bool.{and_parts, cases_Bool, leb-true, le-leb, eqb-true, false≢true}
 use Rattle.std.specs.Cmp.Derive.{both_true}
 use Rattle.std.proofs.lemmas.List.{take_more, take_all}
 use Rattle.vw_insn.specs.declared.instruction.Insn.{Insn}
@@ -8,17 +8,29 @@ use Rattle.vw_rows.specs.declared.patterns.Prefix.{Prefix}
 use Rattle.vw_rows.specs.declared.patterns.Prefix.TheVariants.{Plain, P66, PF2, PF3}
 use Rattle.vw_rows.specs.declared.patterns.Prefixes.{Prefixes}
 use Rattle.vw_rows.specs.declared.patterns.Prefixes.TheVariants as pre
-use Rattle.vw_rows.specs.declared.patterns.Map.{Map}
 use Rattle.vw_rows.specs.declared.forms.Row.{Row}
-use Rattle.vw_rows.specs.Rows.{rows}
-use Rattle.vw_rows.specs.Lookup.{IsIn, takes_prefix, same_map}
+use Rattle.vw_rows.specs.Rows.{row, rows}
+use denote.Bor.{Bor}
+use Rattle.vw_rows.specs.declared.patterns.Map.TheVariants as map
+use Rattle.vw_rows.specs.declared.patterns.Form.TheVariants as form
+use Rattle.vw_rows.specs.declared.forms.Kind.TheVariants as kind
+use Rattle.vw_rows.specs.declared.forms.Operands.TheVariants as ops
+use Rattle.vw_rows.specs.declared.forms.Sizing.TheVariants as size
+use Rattle.vw_rows.specs.declared.forms.Immediate.TheVariants as imm
+use Rattle.vw_rows.specs.Lookup.{IsIn, takes_prefix}
 use Rattle.vw_rows.specs.Layout.{key_of}
 use Rattle.vw_rows.proofs.Matching.{tests-of}
 use Rattle.vw_encode.specs.declared.buffer.Spelled.{Spelled}
-use Rattle.vw_encode.specs.declared.search.Ranked.{Ranked}
-use Rattle.vw_encode.specs.Found.{FirstOf, FoundIn, Best}
+use Rattle.vw_encode.specs.Found.{FirstOf, FoundIn, is_candidate}
+use Rattle.vw_encode.specs.Kinds.{kind_number, insn_number, rows_of_kind, are_numbers, kinds_agree}
 use Rattle.vw_rows.specs.Parts.{Parts}
 use Rattle.vw_encode.specs.Normal.{Without}
+
+abbrev pub no_row : Option Row
+no_row = None
+
+abbrev pub some_row : Row → Option Row
+some_row r = Some r
 
 abbrev pub Passed : List Row → Insn → Type 0
 Passed rs insn = (r : Row) → IsIn r rs → Without r insn (λ p. Unit {0})
@@ -59,13 +71,8 @@ into_filter f (x ∷ xs) r (inr h) e = elim (cases_Bool (f x)) [
   | inr miss ↦ rw miss (into_filter f xs r h e)
 ]
 
--- a row of a map's table is a row
-pub listed_at : (items : List Row) (m : Map) (i : ℕ) (d : Row) → items ≡ filter (λ (r : Row). same_map r.pattern.map m) rows → i < length items → IsIn (get_or items i d) rows
-listed_at items m i d e lt = out_of_filter (λ (r : Row). same_map r.pattern.map m) rows (get_or items i d) (subst (λ (l : List Row). IsIn (get_or items i d) l) e (stands items i d lt))
-
-pub map_passed : (items : List Row) (m : Map) (i : ℕ) (insn : Insn) → items ≡ filter (λ (r : Row). same_map r.pattern.map m) rows → length items ≤ i → Passed (take i items) insn → (r : Row) → IsIn r rows → same_map r.pattern.map m ≡ true → Without r insn (λ p. Unit {0})
-map_passed items m i insn e le h r listed same =
-    passed_all items i insn le h r (subst (λ (l : List Row). IsIn r l) (sym e) (into_filter (λ (x : Row). same_map x.pattern.map m) rows r listed same))
+listed_at : (f : Row → Bool) (i : ℕ) (d : Row) → i < length (filter f rows) → IsIn (get_or (filter f rows) i d) rows
+listed_at f i d lt = out_of_filter f rows (get_or (filter f rows) i d) (stands (filter f rows) i d lt)
 
 -- ---- the order of the rows
 
@@ -122,115 +129,107 @@ place_of (x ∷ xs) n (suc i) d r h lt is =
       ]
     ]
 
-by_number : (xs : List Row) (n : ℕ) (r s : Row) → ascending n xs ≡ true → IsIn r xs → IsIn s xs → r.number ≡ s.number → r ≡ s
-by_number [] n r s h i j e = absurd i
-by_number (x ∷ xs) n r s h i j e =
-    let both = and_parts (leb n x.number) (ascending (x.number + 1) xs) h in
-    elim i [
-      | inl one ↦ elim j [
-        | inl two ↦ sym one ∙ two
-        | inr rest ↦ absurd (let more = least (x.number + 1) xs s both.1 rest in let own = ap (λ (y : Row). y.number) one in omega arith)
-      ]
-      | inr deep ↦ elim j [
-        | inl two ↦ absurd (let more = least (x.number + 1) xs r both.1 deep in let own = ap (λ (y : Row). y.number) two in omega arith)
-        | inr rest ↦ by_number xs (x.number + 1) r s both.1 deep rest e
-      ]
-    ]
-
-pub one_number : (r s : Row) → IsIn r rows → IsIn s rows → r.number ≡ s.number → r ≡ s
-one_number r s i j e = by_number rows 0 r s rows_ascend i j e
-
 abbrev Always : Parts → Type 0
 Always p = Unit {0}
 
--- the first row of a map's table
-pub found_in_map : (items : List Row) (m : Map) (i : ℕ) (d : Row) (insn : Insn) (s : Spelled) → items ≡ filter (λ (r : Row). same_map r.pattern.map m) rows → i < length items → Passed (take i items) insn → FirstOf s (get_or items i d) insn Always Always → FoundIn (record { number = (get_or items i d).number; spelled = s }) (λ r. same_map r.pattern.map m) insn
-found_in_map items m i d insn s e lt passed f = record {
-  row = get_or items i d;
-  number = refl;
-  best = f;
-  later = λ r listed same.
-      let there : IsIn r items = subst (λ (l : List Row). IsIn r l) (sym e) (into_filter (λ (x : Row). same_map x.pattern.map m) rows r listed same) in
-      let up : ascending 0 items ≡ true = rw e (filter_ascends (λ (x : Row). same_map x.pattern.map m) 0 rows rows_ascend) in
-      elim (place_of items 0 i d r up lt there) [
-        | inl front ↦ inr (inr (passed r front))
-        | inr other ↦ elim other [ inl is ↦ inl is | inr more ↦ inr (inl more) ]
-      ];
-}
+-- the first row of a list
+found_in : (f : Row → Bool) (i : ℕ) (d : Row) (insn : Insn) (s : Spelled) → i < length (filter f rows) → Passed (take i (filter f rows)) insn → (r : Row) → IsIn r rows → f r ≡ true → (r ≡ get_or (filter f rows) i d) ⊎ ((get_or (filter f rows) i d).number < r.number) ⊎ Without r insn (λ p. Unit {0})
+found_in f i d insn s lt passed r listed same =
+    let there : IsIn r (filter f rows) = into_filter f rows r listed same in
+    let up : ascending 0 (filter f rows) ≡ true = filter_ascends f 0 rows rows_ascend in
+    elim (place_of (filter f rows) 0 i d r up lt there) [
+      | inl front ↦ inr (inr (passed r front))
+      | inr other ↦ elim other [ inl is ↦ inl is | inr more ↦ inr (inl more) ]
+    ]
 
-or_cases : (a b : Bool) → (a || b) ≡ true → (a ≡ true) ⊎ (b ≡ true)
-or_cases true b h = inl refl
-or_cases false b h = inr h
+-- ---- the rows of a kind, by their numbers
 
--- ---- of two sets of rows
+abbrev any_row : Row
+any_row = row 0 pre.Plain map.One 0 false None form.Any kind.Ret ops.None size.None imm.None
 
-abbrev Nothing : (Row → Bool) → Insn → Type 0
-Nothing rs insn = (r : Row) → IsIn r rows → rs r ≡ true → Without r insn (λ p. Unit {0})
+numbers-length : (ns : List ℕ) (rs : List Row) → are_numbers ns rs ≡ true → length ns ≡ length rs
+unfolding are_numbers
+numbers-length [] [] h = refl
+numbers-length [] (r ∷ rs) h = absurd (false≢true h)
+numbers-length (n ∷ ns) [] h = absurd (false≢true h)
+numbers-length (n ∷ ns) (r ∷ rs) h = ap suc (numbers-length ns rs (and_parts (n == r.number) (are_numbers ns rs) h).1)
 
-abbrev Places : Row → Row → Insn → Type 0
-Places r row insn = (r ≡ row) ⊎ (row.number < r.number) ⊎ Without r insn (λ p. Unit {0})
+numbers-at : (ns : List ℕ) (rs : List Row) → are_numbers ns rs ≡ true → (i d : ℕ) (x : Row) → i < length ns → (get_or rs i x).number ≡ get_or ns i d
+unfolding are_numbers
+numbers-at [] rs h i d x lt = absurd (omega arith)
+numbers-at (n ∷ ns) [] h i d x lt = absurd (false≢true h)
+numbers-at (n ∷ ns) (r ∷ rs) h zero d x lt = sym (eqb-true n r.number (and_parts (n == r.number) (are_numbers ns rs) h).0)
+numbers-at (n ∷ ns) (r ∷ rs) h (suc i) d x lt = numbers-at ns rs (and_parts (n == r.number) (are_numbers ns rs) h).1 i d x (omega arith)
 
-pub neither : (insn : Insn) (rs ss : Row → Bool) → Nothing rs insn → Nothing ss insn → Nothing (λ r. rs r || ss r) insn
-neither insn rs ss f g r listed is = elim (or_cases (rs r) (ss r) is) [ inl a ↦ f r listed a | inr b ↦ g r listed b ]
+abbrev of_kind : Insn → Row → Bool
+of_kind insn r = kind_number r.kind == insn_number insn
 
-pub only_second : (insn : Insn) (rs ss : Row → Bool) (b : Ranked) → Nothing rs insn → FoundIn b ss insn → FoundIn b (λ r. rs r || ss r) insn
-only_second insn rs ss b f g = record {
-  row = g.row;
-  number = g.number;
-  best = g.best;
-  later = λ r listed is. elim (or_cases (rs r) (ss r) is) [ inl one ↦ inr (inr (f r listed one)) | inr two ↦ g.later r listed two ];
-}
+kind-rows : (insn : Insn) → rows_of_kind (insn_number insn) ≡ filter (of_kind insn) rows
+unfolding rows_of_kind
+kind-rows insn = refl
 
-pub only_first : (insn : Insn) (rs ss : Row → Bool) (a : Ranked) → FoundIn a rs insn → Nothing ss insn → FoundIn a (λ r. rs r || ss r) insn
-only_first insn rs ss a f g = record {
-  row = f.row;
-  number = f.number;
-  best = f.best;
-  later = λ r listed is. elim (or_cases (rs r) (ss r) is) [ inl one ↦ f.later r listed one | inr two ↦ inr (inr (g r listed two)) ];
-}
+-- what the search by the row of a number has answered
+abbrev pub Answered : ℕ → Insn → Option Spelled → Type 0
+Answered n insn o = (r : Row) → IsIn r rows → r.number ≡ n → MatchOption o (Without r insn (λ p. Unit {0})) (λ s. FirstOf s r insn (λ q. Unit {0}) (λ p. Unit {0}))
 
-after_less : (r row other : Row) (insn : Insn) → other.number < row.number → Places r row insn → Places r other insn
-after_less r row other insn lt (inl e) = inr (inl (let own = ap (λ (y : Row). y.number) e in omega arith))
-after_less r row other insn lt (inr (inl more)) = inr (inl (omega arith))
-after_less r row other insn lt (inr (inr none)) = inr (inr none)
+answered : (ns : List ℕ) (insn : Insn) (i d : ℕ) (o : Option Spelled) → are_numbers ns (rows_of_kind (insn_number insn)) ≡ true → i < length ns → Answered (get_or ns i d) insn o → MatchOption o (Without (get_or (filter (of_kind insn) rows) i any_row) insn Always) (λ s. FirstOf s (get_or (filter (of_kind insn) rows) i any_row) insn Always Always)
+answered ns insn i d o e lt h =
+    let agree : are_numbers ns (filter (of_kind insn) rows) ≡ true = subst (λ (l : List Row). are_numbers ns l ≡ true) (kind-rows insn) e in
+    let len = numbers-length ns (filter (of_kind insn) rows) agree in
+    h (get_or (filter (of_kind insn) rows) i any_row) (listed_at (of_kind insn) i any_row (omega arith)) (numbers-at ns (filter (of_kind insn) rows) agree i d any_row lt)
 
-pub second_less : (insn : Insn) (rs ss : Row → Bool) (a b : Ranked) → b.number < a.number → FoundIn a rs insn → FoundIn b ss insn → FoundIn b (λ r. rs r || ss r) insn
-second_less insn rs ss a b lt f g = record {
-  row = g.row;
-  number = g.number;
-  best = g.best;
-  later = λ r listed is.
-      let less : g.row.number < f.row.number = rw (g.number, f.number) lt in
-      elim (or_cases (rs r) (ss r) is) [ inl one ↦ after_less r f.row g.row insn less (f.later r listed one) | inr two ↦ g.later r listed two ];
-}
+pub one_number_more : (ns : List ℕ) (insn : Insn) (i d : ℕ) → are_numbers ns (rows_of_kind (insn_number insn)) ≡ true → i < length ns → Passed (take i (filter (λ (r : Row). kind_number r.kind == insn_number insn) rows)) insn → Answered (get_or ns i d) insn None → Passed (take (i + 1) (filter (λ (r : Row). kind_number r.kind == insn_number insn) rows)) insn
+one_number_more ns insn i d e lt before h =
+    let agree : are_numbers ns (filter (of_kind insn) rows) ≡ true = subst (λ (l : List Row). are_numbers ns l ≡ true) (kind-rows insn) e in
+    let len = numbers-length ns (filter (of_kind insn) rows) agree in
+    one_more (filter (of_kind insn) rows) i any_row insn (omega arith) before (answered ns insn i d None e lt h)
 
-pub first_less : (insn : Insn) (rs ss : Row → Bool) (a b : Ranked) → a.number ≤ b.number → FoundIn a rs insn → FoundIn b ss insn → FoundIn a (λ r. rs r || ss r) insn
-first_less insn rs ss a b le f g = record {
-  row = f.row;
-  number = f.number;
-  best = f.best;
-  later = λ r listed is. elim (or_cases (rs r) (ss r) is) [ inl one ↦ f.later r listed one | inr two ↦ other r listed two ];
-}
+pub kind_passed : (ns : List ℕ) (insn : Insn) (i : ℕ) → are_numbers ns (rows_of_kind (insn_number insn)) ≡ true → length ns ≤ i → Passed (take i (filter (λ (r : Row). kind_number r.kind == insn_number insn) rows)) insn → (r : Row) → IsIn r rows → is_candidate insn r ≡ true → Without r insn (λ p. Unit {0})
+kind_passed ns insn i e le h r listed same =
+    let agree : are_numbers ns (filter (of_kind insn) rows) ≡ true = subst (λ (l : List Row). are_numbers ns l ≡ true) (kind-rows insn) e in
+    let len = numbers-length ns (filter (of_kind insn) rows) agree in
+    passed_all (filter (of_kind insn) rows) i insn (omega arith) h r (into_filter (of_kind insn) rows r listed same)
+
+pub found_of_kind : (ns : List ℕ) (insn : Insn) (i d : ℕ) (s : Spelled) → are_numbers ns (rows_of_kind (insn_number insn)) ≡ true → i < length ns → Passed (take i (filter (λ (r : Row). kind_number r.kind == insn_number insn) rows)) insn → Answered (get_or ns i d) insn (Some s) → FoundIn s insn
+found_of_kind ns insn i d s e lt passed h =
+    let agree : are_numbers ns (filter (of_kind insn) rows) ≡ true = subst (λ (l : List Row). are_numbers ns l ≡ true) (kind-rows insn) e in
+    let len = numbers-length ns (filter (of_kind insn) rows) agree in
+    record {
+      row = get_or (filter (of_kind insn) rows) i any_row;
+      best = answered ns insn i d (Some s) e lt h;
+      later = found_in (of_kind insn) i any_row insn s (omega arith) passed;
+    }
+
+-- ---- the lists of the kinds
+
+pub kinds-length : (n : ℕ) (ls : List (Bor (List ℕ))) → kinds_agree n ls ≡ true → n + length ls ≡ 171
+unfolding kinds_agree
+kinds-length n [] h = (let e : n ≡ 171 = eqb-true n 171 h in omega arith)
+kinds-length n (l ∷ ls) h = (let rest = kinds-length (n + 1) ls (and_parts (are_numbers l.now (rows_of_kind n)) (kinds_agree (n + 1) ls) h).1 in omega arith)
+
+pub kinds-at : (n : ℕ) (ls : List (Bor (List ℕ))) → kinds_agree n ls ≡ true → (k : ℕ) (d : Bor (List ℕ)) → k < length ls → are_numbers (get_or ls k d).now (rows_of_kind (n + k)) ≡ true
+unfolding kinds_agree
+kinds-at n [] h k d lt = absurd (omega arith)
+kinds-at n (l ∷ ls) h zero d lt = (let same : n + 0 ≡ n = omega arith in subst (λ (j : ℕ). are_numbers l.now (rows_of_kind j) ≡ true) (sym same) (and_parts (are_numbers l.now (rows_of_kind n)) (kinds_agree (n + 1) ls) h).0)
+kinds-at n (l ∷ ls) h (suc k) d lt =
+    let same : n + 1 + k ≡ n + suc k = omega arith in
+    subst (λ (j : ℕ). are_numbers (get_or ls k d).now (rows_of_kind j) ≡ true) same (kinds-at (n + 1) ls (and_parts (are_numbers l.now (rows_of_kind n)) (kinds_agree (n + 1) ls) h).1 k d (omega arith))
+
+pub kind-at : (ls : List (Bor (List ℕ))) → kinds_agree 0 ls ≡ true → (k : ℕ) (d : Bor (List ℕ)) → k < length ls → are_numbers (get_or ls k d).now (rows_of_kind k) ≡ true
+kind-at ls h k d lt = (let same : 0 + k ≡ k = omega arith in subst (λ (j : ℕ). are_numbers (get_or ls k d).now (rows_of_kind j) ≡ true) same (kinds-at 0 ls h k d lt))
+
+pub kind-of : (ls : List (Bor (List ℕ))) (k n : ℕ) (d : Bor (List ℕ)) → kinds_agree 0 ls ≡ true → k ≡ n → k < length ls → are_numbers (get_or ls k d).now (rows_of_kind n) ≡ true
+kind-of ls k n d h e lt = subst (λ (j : ℕ). are_numbers (get_or ls k d).now (rows_of_kind j) ≡ true) e (kind-at ls h k d lt)
+
+-- the answer by a row of the number
+pub answered_none : (n : ℕ) (insn : Insn) → ((r : Row) → IsIn r rows → r.number ≡ n → no_row ≡ Some r) → Answered n insn None
+answered_none n insn only r listed is = (let e = only r listed is in cc)
+
+pub answered_by : (n : ℕ) (insn : Insn) (x : Row) (o : Option Spelled) → ((r : Row) → IsIn r rows → r.number ≡ n → some_row x ≡ Some r) → MatchOption o (Without x insn (λ p. Unit {0})) (λ s. FirstOf s x insn (λ q. Unit {0}) (λ p. Unit {0})) → Answered n insn o
+answered_by n insn x o only h r listed is = (let e : x ≡ r = row_is x r (only r listed is) in subst (λ (y : Row). MatchOption o (Without y insn (λ p. Unit {0})) (λ s. FirstOf s y insn (λ q. Unit {0}) (λ p. Unit {0}))) e h)
   where
-    other : (r : Row) → IsIn r rows → ss r ≡ true → Places r f.row insn
-    other r listed two =
-        let at_most : f.row.number ≤ g.row.number = rw (f.number, g.number) le in
-        elim (cases_lt f.row.number g.row.number) [
-          | inl less ↦ after_less r g.row f.row insn less (g.later r listed two)
-          | inr same ↦ (
-              let e : g.row ≡ f.row = one_number g.row f.row g.best.made.laid.listed f.best.made.laid.listed (omega arith) in
-              subst (λ (y : Row). Places r y insn) e (g.later r listed two))
-        ]
-
-abbrev some_ranked : Ranked → Option Ranked
-some_ranked f = Some f
-
-pub best_none : (insn : Insn) (rs ss : Row → Bool) (b : Option Ranked) → Nothing rs insn → Best b ss insn → Best b (λ r. rs r || ss r) insn
-best_none insn rs ss None f g = neither insn rs ss f g
-best_none insn rs ss (Some b) f g = only_second insn rs ss b f g
-
-pub best_first : (insn : Insn) (rs ss : Row → Bool) (a : Ranked) (b : Option Ranked) → FoundIn a rs insn → b ≡ None → Best b ss insn → FoundIn a (λ r. rs r || ss r) insn
-best_first insn rs ss a b f e g = only_first insn rs ss a f (subst (λ (o : Option Ranked). Best o ss insn) e g)
+    row_is : (a b : Row) → some_row a ≡ some_row b → a ≡ b
+    row_is a b e = cc
 
 -- ---- prefixes
 

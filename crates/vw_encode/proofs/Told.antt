@@ -198,6 +198,7 @@ count_again imm.Rel32 n = refl
 count_again imm.By1 n = refl
 count_again imm.Cl n = refl
 count_again imm.Iv n = refl
+count_again imm.OpcodeByte n = refl
 
 mov_again : (w : Width) (p : Place) (n : ℤ) (word : ℕ) → mov_immediate w (asked (mov_immediate w p n word)).first (asked (mov_immediate w p n word)).signed (asked (mov_immediate w p n word)).word ≡ mov_immediate w p n word
 mov_again W8 p n word = refl

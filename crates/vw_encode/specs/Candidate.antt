@@ -28,7 +28,7 @@ operand_number ops.Accumulator a = 0
 operand_number ops.E a = place_number a.first
 operand_number ops.OpcodeReg a = 0
 operand_number ops.WithoutRexB a = 0
-operand_number ops.Rm2 a = 2
+operand_number ops.EndsInFa a = 0
 operand_number ops.Xmm a = xmm_number a.rm
 
 abbrev pub operand_memory : Operands → Asked → Mem
@@ -39,7 +39,7 @@ operand_memory ops.Accumulator a = place_memory a.first
 operand_memory ops.E a = place_memory a.first
 operand_memory ops.OpcodeReg a = place_memory a.first
 operand_memory ops.WithoutRexB a = place_memory a.first
-operand_memory ops.Rm2 a = place_memory a.first
+operand_memory ops.EndsInFa a = place_memory a.first
 operand_memory ops.Xmm a = xmm_memory a.rm
 
 abbrev pub digit_or_zero : Option ℕ → ℕ
@@ -54,7 +54,7 @@ reg_field ops.Accumulator d a = digit_or_zero d
 reg_field ops.E d a = digit_or_zero d
 reg_field ops.OpcodeReg d a = digit_or_zero d
 reg_field ops.WithoutRexB d a = digit_or_zero d
-reg_field ops.Rm2 d a = digit_or_zero d
+reg_field ops.EndsInFa d a = digit_or_zero d
 reg_field ops.Xmm d a = a.reg % 8
 
 abbrev pub base_field : Base → ℕ
@@ -102,6 +102,7 @@ immediate_block imm.Rel32 w a = signed_block a
 immediate_block imm.By1 w a = signed_block a
 immediate_block imm.Cl w a = signed_block a
 immediate_block imm.Iv w a = full_block w a
+immediate_block imm.OpcodeByte w a = 0xFA ∷ 0 ∷ 0 ∷ 0 ∷ 0 ∷ 0 ∷ 0 ∷ 0 ∷ []
 
 abbrev pub displacement_of : ℕ → Option ℕ → Mem → List ℕ
 displacement_of byte sib mem = take (displacement_length byte sib) (to_le_bytes w32 (cast_unsigned w32 mem.disp))

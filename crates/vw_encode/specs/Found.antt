@@ -1,5 +1,5 @@
 -- What the search has found of a row.
-use Rattle.std.specs.Prelude.{◌≡◌, ◌⊎◌, ◌<◌, ◌≤◌, Bool, true, Option, MatchOption}
+use Rattle.std.specs.Prelude.{◌≡◌, ◌⊎◌, ◌<◌, ◌≤◌, ◌==◌, Bool, true, Option, MatchOption}
 use Rattle.vw_insn.specs.declared.registers.Width.{Width}
 use Rattle.vw_insn.specs.declared.instruction.Insn.{Insn}
 use Rattle.vw_rows.specs.declared.forms.Row.{Row}
@@ -11,8 +11,8 @@ use Rattle.vw_encode.specs.declared.candidate.Choice.{Choice}
 use Rattle.vw_encode.specs.Buffer.{Holds}
 use Rattle.vw_rows.specs.Rows.{rows}
 use Rattle.vw_rows.specs.Lookup.{IsIn}
-use Rattle.vw_encode.specs.declared.search.Ranked.{Ranked}
 use Rattle.vw_encode.specs.Normal.{Normal, Without, mode_of, scale_of}
+use Rattle.vw_encode.specs.Kinds.{kind_number, insn_number}
 use Rattle.vw_encode.specs.Order.{rank_of, mode_rank, PartsBefore}
 
 -- the buffer holds the parts, which are the instruction by the row
@@ -36,12 +36,15 @@ pub record FirstOf (s : Spelled) (row : Row) (insn : Insn) (Q P : Parts → Type
   pub at : Q parts
   pub first : (p : Parts) → Normal p row insn → P p → (p ≡ parts) ⊎ PartsBefore parts p
 
--- of all rows of the set the first that spells the instruction, and its first spelling
-pub record FoundIn (f : Ranked) (rs : Row → Bool) (insn : Insn) : Type 0 where
-  pub row : Row
-  pub number : row.number ≡ f.number
-  pub best : FirstOf f.spelled row insn (λ q. Unit {0}) (λ p. Unit {0})
-  pub later : (r : Row) → IsIn r rows → rs r ≡ true → (r ≡ row) ⊎ (row.number < r.number) ⊎ Without r insn (λ p. Unit {0})
+-- a row of the instruction's kind
+abbrev pub is_candidate : Insn → Row → Bool
+is_candidate insn r = kind_number r.kind == insn_number insn
 
-abbrev pub Best : Option Ranked → (Row → Bool) → Insn → Type 0
-Best found rs insn = MatchOption found ((r : Row) → IsIn r rows → rs r ≡ true → Without r insn (λ p. Unit {0})) (λ f. FoundIn f rs insn)
+-- of all rows of the instruction's kind the first that spells it, and its first spelling
+pub record FoundIn (s : Spelled) (insn : Insn) : Type 0 where
+  pub row : Row
+  pub best : FirstOf s row insn (λ q. Unit {0}) (λ p. Unit {0})
+  pub later : (r : Row) → IsIn r rows → is_candidate insn r ≡ true → (r ≡ row) ⊎ (row.number < r.number) ⊎ Without r insn (λ p. Unit {0})
+
+abbrev pub Best : Option Spelled → Insn → Type 0
+Best found insn = MatchOption found ((r : Row) → IsIn r rows → is_candidate insn r ≡ true → Without r insn (λ p. Unit {0})) (λ s. FoundIn s insn)

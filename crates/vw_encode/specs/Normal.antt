@@ -1,6 +1,8 @@
--- Of the spellings of an instruction by a row those whose reg field is 0 where nothing names it.
-use Rattle.std.specs.Prelude.{◌≡◌, ℕ, ◌==◌, Bool, true, false, cond, not, ◌&&◌, Option, None, Some, length}
+-- Of the spellings of an instruction by a row those whose reg field is 0 where nothing names it, and whose
+-- REX has no bit that nothing reads.
+use Rattle.std.specs.Prelude.{◌≡◌, ℕ, ◌+◌, ◌*◌, ◌/◌, ◌%◌, ◌==◌, Bool, true, false, cond, not, ◌&&◌, ◌||◌, Option, None, Some, length}
 use Rattle.vw_insn.specs.declared.registers.Width.{Width}
+use Rattle.vw_insn.specs.declared.registers.Width.TheVariants.{W8}
 use Rattle.vw_insn.specs.declared.instruction.Insn.{Insn}
 use Rattle.vw_rows.specs.declared.patterns.Form.{Form}
 use Rattle.vw_rows.specs.declared.patterns.Form.TheVariants.{Any, Memory, Register}
@@ -35,7 +37,7 @@ asks_first ops.Accumulator = false
 asks_first ops.E = true
 asks_first ops.OpcodeReg = true
 asks_first ops.WithoutRexB = false
-asks_first ops.Rm2 = false
+asks_first ops.EndsInFa = false
 asks_first ops.Xmm = false
 
 abbrev pub asks_second : Operands → Bool
@@ -46,7 +48,7 @@ asks_second ops.Accumulator = false
 asks_second ops.E = false
 asks_second ops.OpcodeReg = false
 asks_second ops.WithoutRexB = false
-asks_second ops.Rm2 = false
+asks_second ops.EndsInFa = false
 asks_second ops.Xmm = false
 
 -- an instruction of the kind, with an immediate or without, has the first operand of its row
@@ -170,7 +172,7 @@ full_first ops.Accumulator f x = true
 full_first ops.E f x = is_register f && not x
 full_first ops.OpcodeReg f x = true
 full_first ops.WithoutRexB f x = false
-full_first ops.Rm2 f x = false
+full_first ops.EndsInFa f x = false
 full_first ops.Xmm f x = false
 
 abbrev pub is_eg : Operands → Bool
@@ -189,9 +191,9 @@ abbrev pub is_xmm_form : Operands → Bool
 is_xmm_form ops.Xmm = true
 is_xmm_form _ = false
 
-abbrev pub is_rm2 : Operands → Bool
-is_rm2 ops.Rm2 = true
-is_rm2 _ = false
+abbrev pub ends_in_fa : Operands → Bool
+ends_in_fa ops.EndsInFa = true
+ends_in_fa _ = false
 
 abbrev pub reads_signed : Immediate → Bool
 reads_signed imm.Ib = true
@@ -207,6 +209,10 @@ is_iv _ = false
 abbrev pub is_ub : Immediate → Bool
 is_ub imm.Ub = true
 is_ub _ = false
+
+abbrev pub is_opcode_byte : Immediate → Bool
+is_opcode_byte imm.OpcodeByte = true
+is_opcode_byte _ = false
 
 abbrev pub first_told : Row → Bool
 first_told r = implies (asks_first r.operands) (tells_first r.kind (is_given r.immediate))
@@ -235,26 +241,103 @@ byte_told r = implies (is_ub r.immediate) (tells_byte r.kind)
 abbrev pub xmm_told : Row → Bool
 xmm_told r = implies (is_xmm_form r.operands) (is_xmm r.kind)
 
-abbrev pub rm_told : Row → Bool
-rm_told r = implies (is_rm2 r.operands) (is_register r.pattern.form)
+abbrev pub end_told : Row → Bool
+end_told r = implies (is_opcode_byte r.immediate) (ends_in_fa r.operands)
 
 abbrev pub plus_told : Row → Bool
 plus_told r = implies r.pattern.plus (is_opcode_reg r.operands)
 
 -- all that the parts name stands in the instruction
 abbrev pub is_told : Row → Bool
-is_told r = first_told r && (first_full r && (second_told r && (second_register r && (second_memory r && (signed_told r && (mov_told r && (byte_told r && (xmm_told r && (plus_told r && rm_told r)))))))))
+is_told r = first_told r && (first_full r && (second_told r && (second_register r && (second_memory r && (signed_told r && (mov_told r && (byte_told r && (xmm_told r && (plus_told r && end_told r)))))))))
 
 -- ---- spellings
 
 -- nothing names the reg field
 abbrev pub is_free : Operands → Option ℕ → Bool
 is_free ops.E None = true
-is_free ops.Rm2 None = true
 is_free _ _ = false
 
 abbrev pub has_free_reg : Row → Bool
 has_free_reg r = is_free r.operands r.pattern.digit
+
+-- ---- what a row reads of REX (SDM volume 2, 2.2.1.2)
+
+-- W: the width hangs on it
+abbrev pub reads_w : Sizing → Bool
+reads_w size.None = false
+reads_w size.B = false
+reads_w size.V = true
+reads_w size.V32Or64 = true
+reads_w size.Q = false
+reads_w size.OnlyW = true
+reads_w size.Narrow = true
+reads_w size.Wide = true
+
+-- R: the reg field names a register
+abbrev pub reads_r : Operands → Bool
+reads_r ops.None = false
+reads_r ops.EG = true
+reads_r ops.GE = true
+reads_r ops.Accumulator = false
+reads_r ops.E = false
+reads_r ops.OpcodeReg = false
+reads_r ops.WithoutRexB = false
+reads_r ops.EndsInFa = false
+reads_r ops.Xmm = true
+
+-- X: there may be an index
+abbrev pub reads_x : Operands → Bool
+reads_x ops.None = false
+reads_x ops.EG = true
+reads_x ops.GE = true
+reads_x ops.Accumulator = false
+reads_x ops.E = true
+reads_x ops.OpcodeReg = false
+reads_x ops.WithoutRexB = false
+reads_x ops.EndsInFa = false
+reads_x ops.Xmm = true
+
+-- B: there is a register or a base, or the row fixes the bit
+abbrev pub reads_b : Operands → Bool
+reads_b ops.None = false
+reads_b ops.EG = true
+reads_b ops.GE = true
+reads_b ops.Accumulator = false
+reads_b ops.E = true
+reads_b ops.OpcodeReg = true
+reads_b ops.WithoutRexB = true
+reads_b ops.EndsInFa = false
+reads_b ops.Xmm = true
+
+abbrev pub is_byte : Sizing → Bool
+is_byte size.B = true
+is_byte _ = false
+
+abbrev pub extends_byte : Kind → Bool
+extends_byte (kind.Extend g W8) = true
+extends_byte _ = false
+
+-- that it is there: a byte register, 4 to 7, is another one with REX
+abbrev pub reads_byte : Row → Bool
+reads_byte r = is_byte r.width || extends_byte r.kind
+
+abbrev pub kept : Bool → ℕ → ℕ
+kept true n = n
+kept false n = 0
+
+-- the bits of REX that are read
+abbrev pub lean_bits : Bool → Bool → Bool → Bool → ℕ → ℕ
+lean_bits w r x b n = kept w (n / 8 % 2) * 8 + kept r (n / 4 % 2) * 4 + kept x (n / 2 % 2) * 2 + kept b (n % 2)
+
+-- they are all that are set, and there are some unless REX is read itself
+abbrev pub is_lean_bits : Bool → Bool → Bool → Bool → Bool → ℕ → Bool
+is_lean_bits w r x b y n = (lean_bits w r x b n == n) && (y || not (n == 0))
+
+-- no REX, or one that the row reads
+abbrev pub is_lean : Row → Option ℕ → Bool
+is_lean row None = true
+is_lean row (Some n) = is_lean_bits (reads_w row.width) (reads_r row.operands) (reads_x row.operands) (reads_b row.operands) (reads_byte row) n
 
 pub record Normal (p : Parts) (row : Row) (insn : Insn) : Type 0 where
   pub width : Width
@@ -263,6 +346,7 @@ pub record Normal (p : Parts) (row : Row) (insn : Insn) : Type 0 where
   pub are_bytes : IsBytes (bytes_of p)
   pub told : is_told row ≡ true
   pub free : has_free_reg row ≡ true → digit_of p.modrm ≡ 0
+  pub lean : is_lean row p.rex ≡ true
 
 abbrev pub mode_of : Option Modrm → ℕ
 mode_of None = 3

@@ -25,7 +25,6 @@ fn operand_number(operands: Operands, asked: &Asked) -> u8
         Operands::EG | Operands::E => place_number(asked.first),
         Operands::GE => place_number(asked.second),
         Operands::Xmm => xmm_number(asked.rm),
-        Operands::Rm2 => 2,
         _ => 0,
     }
 }
@@ -139,12 +138,13 @@ pub(crate) fn displacement_block(mem: Mem) -> [u8; 4]
     mem.disp.to_le_bytes()
 }
 
-/// Eight bytes of which the immediate is the first ones.
+/// Eight bytes of which the immediate, or the end of the opcode, is the first ones.
 pub(crate) fn immediate_block(immediate: Immediate, w: Width, asked: &Asked) -> [u8; 8]
     ensures { result ≡ immediate_block immediate w asked.now }
 {
     match (immediate, w) {
         (Immediate::Ub, _) => [asked.byte, 0, 0, 0, 0, 0, 0, 0],
+        (Immediate::OpcodeByte, _) => [0xFA, 0, 0, 0, 0, 0, 0, 0],
         (Immediate::Iv, Width::W64) => asked.word.to_le_bytes(),
         _ => {
             let [a, b, c, d] = asked.signed.to_le_bytes();

@@ -3,9 +3,8 @@ ghost use Rattle.vw_rows.specs.Spelling.{Spells};
 ghost use Rattle.vw_encode.specs.Order.{IsFirst};
 
 use crate::buffer::Spelled;
-use crate::search::{earlier, in_map};
+use crate::search::first_spelling;
 use vw_insn::Insn;
-use vw_rows::Map;
 
 /// No bytes spell the instruction.
 #[derive(Clone, Copy, Debug, PartialEq, Eq)]
@@ -23,11 +22,8 @@ pub fn encode(insn: &Insn) -> Result<Spelled, NotEncodable>
     ensures padded { IfOk result (λ s. (i : ℕ) → s.len ≤ i → get_or s.bytes i 0 ≡ 0) }
     ensures none { IfErr result (λ e. (bytes : List ℕ) → Spells bytes insn.now → ⊥) }
 {
-    let one = in_map(Map::One, insn);
-    let two = in_map(Map::Two, insn);
-    let three = in_map(Map::Three, insn);
-    match earlier(earlier(one, two), three) {
+    match first_spelling(insn) {
         None => Err(NotEncodable),
-        Some(found) => Ok(found.spelled),
+        Some(spelled) => Ok(spelled),
     }
 }

@@ -5,6 +5,8 @@ mod asked;
 mod buffer;
 mod candidate;
 mod encoding;
+mod kinds;
+mod lean;
 mod search;
 
 pub use buffer::Spelled;

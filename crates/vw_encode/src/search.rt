@@ -1,8 +1,8 @@
-ghost use Rattle.std.specs.Prelude.{Bool, ◌||◌, ◌≡◌, ◌↔◌, ◌<◌, ◌≤◌, IsTrue, Some, None, IfSome, MatchOption};
+ghost use Rattle.std.specs.Prelude.{◌≡◌, ◌↔◌, ◌<◌, ◌≤◌, IsTrue, Some, None, IfSome, MatchOption};
 ghost use Rattle.vw_insn.specs.declared.instruction.Insn.{Insn};
 ghost use Rattle.vw_rows.specs.declared.forms.Row.{Row};
 ghost use Rattle.vw_rows.specs.Rows.{rows};
-ghost use Rattle.vw_rows.specs.Lookup.{IsIn, same_map};
+ghost use Rattle.vw_rows.specs.Lookup.{IsIn};
 ghost use Rattle.vw_rows.specs.Parts.{Parts, rex_w};
 ghost use Rattle.vw_rows.specs.Layout.{IsRex, IsLaid, key_of, width_at, has_sib};
 ghost use Rattle.vw_rows.specs.Views.{modrm_view, optional_view, parts_view};
@@ -18,45 +18,35 @@ use crate::buffer::{Spelled, written};
 use crate::candidate::{
     Choice, displacement_block, immediate_block, modrm_byte, opcode_byte, operand_memory, sib_field,
 };
+use crate::kinds::candidates;
+use crate::lean::is_lean;
 use vw_insn::{Insn, Width, same_insn};
 use vw_rows::{
-    Key, Map, Modrm, Parts, Prefix, Prefixes, Row, Shape, built, displacement_length, has_fixed,
-    has_modrm, immediate_length, insn_of, is_match, rex_w, rows_of, takes_sib, width_at,
+    Key, Modrm, Parts, Prefix, Prefixes, Row, Shape, built, displacement_length, has_fixed,
+    has_modrm, immediate_length, insn_of, is_match, rex_w, row_numbered, takes_sib, width_at,
 };
 
-// A spelling, and the number of the row that it is by.
-#[derive(Clone, Copy)]
-pub(crate) struct Ranked {
-    pub(crate) number: u16,
-    pub(crate) spelled: Spelled,
-}
-
-/// The first spelling by the first row of the map that has any.
-pub(crate) fn in_map(map: Map, insn: &Insn) -> Option<Ranked>
-    ensures { Best result (λ r. same_map r.pattern.map map) insn.now }
+// The first spelling by the first row of the instruction's kind that has any.
+pub(crate) fn first_spelling(insn: &Insn) -> Option<Spelled>
+    ensures { Best result insn.now }
 {
     let wanted = asked_by(insn);
-    for row in rows_of(map) {
-        if let Some(spelled) = in_row(*row, &wanted, insn) {
-            return Some(Ranked {
-                number: row.number,
-                spelled,
-            });
+    for number in candidates(insn) {
+        if let Some(spelled) = in_numbered(*number, &wanted, insn) {
+            return Some(spelled);
         }
     }
     None
 }
 
-/// Of two spellings the one by the row of the lesser number.
-pub(crate) fn earlier(a: Option<Ranked>, b: Option<Ranked>) -> Option<Ranked>
-    ensures { (insn : Insn) (rs ss : Row → Bool) → Best a rs insn → Best b ss insn → Best result (λ r. rs r || ss r) insn }
+// The first spelling by the row of the number.
+fn in_numbered(number: u16, wanted: &Asked, insn: &Insn) -> Option<Spelled>
+    requires wanted { wanted.now ≡ asked insn.now }
+    ensures { (r : Row) → IsIn r rows → r.number ≡ number → MatchOption result (Without r insn.now (λ p. Unit {0})) (λ s. FirstOf s r insn.now (λ q. Unit {0}) (λ p. Unit {0})) }
 {
-    match a {
-        None => b,
-        Some(first) => match b {
-            None => a,
-            Some(second) => { if second.number < first.number { b } else { a } }
-        },
+    match row_numbered(number) {
+        None => None,
+        Some(row) => in_row(row, wanted, insn),
     }
 }
 
@@ -79,7 +69,7 @@ fn in_row(row: Row, wanted: &Asked, insn: &Insn) -> Option<Spelled>
     }
 }
 
-// Without REX, else with the least bits of REX.
+// Without REX, else with the least bits of REX of those that the row reads.
 fn with_prefix(row: Row, prefix: Prefix, wanted: &Asked, insn: &Insn) -> Option<Spelled>
     requires listed { IsIn row rows }
     requires wanted { wanted.now ≡ asked insn.now }
@@ -89,11 +79,23 @@ fn with_prefix(row: Row, prefix: Prefix, wanted: &Asked, insn: &Insn) -> Option<
         return Some(spelled);
     }
     for bits in 0..16 {
-        if let Some(spelled) = with_rex(row, prefix, Some(bits), wanted, insn) {
+        if let Some(spelled) = with_bits(row, prefix, bits, wanted, insn) {
             return Some(spelled);
         }
     }
     None
+}
+
+fn with_bits(row: Row, prefix: Prefix, bits: u8, wanted: &Asked, insn: &Insn) -> Option<Spelled>
+    requires listed { IsIn row rows }
+    requires wanted { wanted.now ≡ asked insn.now }
+    requires rex { bits < 16 }
+    ensures { MatchOption result (Without row insn.now (λ p. (p.prefix ≡ prefix) × (p.rex ≡ Some bits))) (λ s. FirstOf s row insn.now (λ q. (q.prefix ≡ prefix) × (q.rex ≡ Some bits)) (λ p. (p.prefix ≡ prefix) × (p.rex ≡ Some bits))) }
+{
+    if !is_lean(row, bits) {
+        return None;
+    }
+    with_rex(row, prefix, Some(bits), wanted, insn)
 }
 
 // A register, else memory without SIB, else memory with SIB, the least scale first.

@@ -1,3 +1,4 @@
 pub mod Matching
 pub mod Uniqueness
+pub mod ReadLevels
 pub mod SpelledListed

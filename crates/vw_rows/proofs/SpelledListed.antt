@@ -185,7 +185,7 @@ first_listed ops.Accumulator k w p h = tt
 first_listed ops.E k w p h = rm_listed (rm_width k w) p.rex p.modrm h
 first_listed ops.OpcodeReg k w p h = register_listed w p.rex (p.opcode % 8 + 8 * rex_b p.rex)
 first_listed ops.WithoutRexB k w p h = tt
-first_listed ops.Rm2 k w p h = tt
+first_listed ops.EndsInFa k w p h = tt
 first_listed ops.Xmm k w p h = tt
 
 second_listed : (o : Operands) (k : Kind) (w : Width) (p : Parts) → SibByte p.modrm → IsPlace (second_place o k w p)
@@ -196,7 +196,7 @@ second_listed ops.Accumulator k w p h = tt
 second_listed ops.E k w p h = tt
 second_listed ops.OpcodeReg k w p h = tt
 second_listed ops.WithoutRexB k w p h = tt
-second_listed ops.Rm2 k w p h = tt
+second_listed ops.EndsInFa k w p h = tt
 second_listed ops.Xmm k w p h = tt
 
 -- a kind whose E has the width of the operation
@@ -208,7 +208,7 @@ first_full ops.Accumulator k w p word e h = tt
 first_full ops.E k w p word e h = rw e (rm_full w p.rex p.modrm word h)
 first_full ops.OpcodeReg k w p word e h = register_full w p.rex (p.opcode % 8 + 8 * rex_b p.rex) word
 first_full ops.WithoutRexB k w p word e h = tt
-first_full ops.Rm2 k w p word e h = tt
+first_full ops.EndsInFa k w p word e h = tt
 first_full ops.Xmm k w p word e h = tt
 
 second_full : (o : Operands) (k : Kind) (w : Width) (p : Parts) → IsWord w → rm_width k w ≡ w → SibByte p.modrm → IsFullPlace (second_place o k w p)
@@ -219,7 +219,7 @@ second_full ops.Accumulator k w p word e h = tt
 second_full ops.E k w p word e h = tt
 second_full ops.OpcodeReg k w p word e h = tt
 second_full ops.WithoutRexB k w p word e h = tt
-second_full ops.Rm2 k w p word e h = tt
+second_full ops.EndsInFa k w p word e h = tt
 second_full ops.Xmm k w p word e h = tt
 
 xmm_register_listed : (o : Operands) (p : Parts) → xmm_register o p < 16
@@ -230,7 +230,7 @@ xmm_register_listed ops.Accumulator p = omega arith
 xmm_register_listed ops.E p = omega arith
 xmm_register_listed ops.OpcodeReg p = omega arith
 xmm_register_listed ops.WithoutRexB p = omega arith
-xmm_register_listed ops.Rm2 p = omega arith
+xmm_register_listed ops.EndsInFa p = omega arith
 xmm_register_listed ops.Xmm p = number_listed p.rex p.modrm
 
 xmm_second_listed : (o : Operands) (p : Parts) → SibByte p.modrm → IsXmmOperand (xmm_second o p)
@@ -241,7 +241,7 @@ xmm_second_listed ops.Accumulator p h = omega arith
 xmm_second_listed ops.E p h = omega arith
 xmm_second_listed ops.OpcodeReg p h = omega arith
 xmm_second_listed ops.WithoutRexB p h = omega arith
-xmm_second_listed ops.Rm2 p h = omega arith
+xmm_second_listed ops.EndsInFa p h = omega arith
 xmm_second_listed ops.Xmm p h = xmm_listed p.rex p.modrm h
 
 memory_in_listed : (p : Place) → IsPlace p → IsMem (memory_in p)
@@ -343,7 +343,7 @@ is_eg ops.Accumulator = false
 is_eg ops.E = false
 is_eg ops.OpcodeReg = false
 is_eg ops.WithoutRexB = false
-is_eg ops.Rm2 = false
+is_eg ops.EndsInFa = false
 is_eg ops.Xmm = false
 
 eg_is : (o : Operands) → is_eg o ≡ true → o ≡ ops.EG
@@ -354,7 +354,7 @@ eg_is ops.Accumulator h = absurd (false≢true h)
 eg_is ops.E h = absurd (false≢true h)
 eg_is ops.OpcodeReg h = absurd (false≢true h)
 eg_is ops.WithoutRexB h = absurd (false≢true h)
-eg_is ops.Rm2 h = absurd (false≢true h)
+eg_is ops.EndsInFa h = absurd (false≢true h)
 eg_is ops.Xmm h = absurd (false≢true h)
 
 byte_tested : (b : Bool) (n : ℕ) → IsTested (source.Place (byte_register b n))
@@ -382,6 +382,7 @@ numbers_bit imm.Rel32 o = false
 numbers_bit imm.By1 o = false
 numbers_bit imm.Cl o = false
 numbers_bit imm.Iv o = false
+numbers_bit imm.OpcodeByte o = false
 
 register_bit : (w : Width) (rex : Option ℕ) (n : ℕ) → IsWord w → IsBitNumber (source.Place (register_place w rex n))
 register_bit W8 rex n word = absurd word
@@ -399,6 +400,7 @@ bit_number imm.Rel32 o k w p h word len byte = absurd (false≢true h)
 bit_number imm.By1 o k w p h word len byte = absurd (false≢true h)
 bit_number imm.Cl o k w p h word len byte = absurd (false≢true h)
 bit_number imm.Iv o k w p h word len byte = absurd (false≢true h)
+bit_number imm.OpcodeByte o k w p h word len byte = absurd (false≢true h)
 
 mov_listed : (w : Width) (dst : Place) (n : ℤ) (word : ℕ) → IsPlace dst → IsListed (mov_immediate w dst n word)
 mov_listed W8 dst n word h = (h, tt)

@@ -1,11 +1,11 @@
-use Rattle.std.proofs.Common.{◌≡◌, Bool, true, false, not, ◌&&◌, Option, None, Some, IfSome, List, [], ◌∷◌, filter, refl, sym, ◌∙◌, ap, subst, inl, inr}
+use Rattle.std.proofs.Common.{◌≡◌, Bool, true, false, not, ◌&&◌, Option, None, Some, IfSome, List, [], ◌∷◌, refl, sym, ◌∙◌, ap, subst, inl, inr}
 use Rattle.std.proofs.lemmas.Bool.{and_parts, cases_Bool, false≢true}
 use Rattle.std.specs.List.{find, list_all}
 use Rattle.vw_rows.specs.declared.patterns.Key.{Key}
 use Rattle.vw_rows.specs.declared.forms.Row.{Row}
 use Rattle.vw_rows.specs.Rows.{rows}
-use Rattle.vw_rows.specs.Lookup.{IsIn, matches, same_map}
-use Rattle.vw_rows.proofs.Matching.{clash, matches-clash, tests-of}
+use Rattle.vw_rows.specs.Lookup.{IsIn, matches}
+use Rattle.vw_rows.proofs.Matching.{clash, matches-clash}
 
 -- no two rows of the list have a key in common
 abbrev apart : List Row → Bool
@@ -43,18 +43,6 @@ one_of k r s (x ∷ xs) h (inr i) (inr j) a b =
 pub one_row : (k : Key) (r s : Row) → IsIn r rows → IsIn s rows → matches r k ≡ true → matches s k ≡ true → r ≡ s
 one_row k r s i j a b = one_of k r s rows rows_apart i j a b
 
--- a filter that keeps what the search wants does not change what is found
-find-filter : (p q : Row → Bool) → ((r : Row) → p r ≡ true → q r ≡ true) → (xs : List Row) → find p (filter q xs) ≡ find p xs
-find-filter p q keeps [] = refl
-find-filter p q keeps (x ∷ xs) =
-    elim (cases_Bool (p x)) [
-      | inl hit ↦ rw (keeps x hit) (rw hit refl)
-      | inr miss ↦ elim (cases_Bool (q x)) [
-        | inl kept ↦ rw kept (rw miss (find-filter p q keeps xs))
-        | inr lost ↦ rw lost (rw miss (find-filter p q keeps xs))
-      ]
-    ]
-
 IfSome-more : (o : Option Row) (P Q : Row → Type 0) → ((r : Row) → P r → Q r) → IfSome o P → IfSome o Q
 IfSome-more None P Q more h = tt
 IfSome-more (Some r) P Q more h = more r h
@@ -77,25 +65,6 @@ find-there p (x ∷ xs) r (inr i) h =
       | inl hit ↦ (x, rw hit refl)
       | inr miss ↦ (let rest = find-there p xs r i h in (rest.0, rw miss rest.1))
     ]
-
--- the search in the rows of the key's map is the search in all rows
-in_map : (k : Key) → find (λ (r : Row). matches r k) (filter (λ (r : Row). same_map r.pattern.map k.map) rows) ≡ find (λ (r : Row). matches r k) rows
-in_map k = find-filter (λ (r : Row). matches r k) (λ (r : Row). same_map r.pattern.map k.map) (λ (r : Row) h. (tests-of r k h).map) rows
-
--- what the search answers is a row of the key
-pub row_found : (k : Key) (table : List Row) (answer : Option Row) → table ≡ filter (λ (r : Row). same_map r.pattern.map k.map) rows → answer ≡ find (λ (r : Row). matches r k) table → IfSome answer (λ (r : Row). IsIn r rows × (matches r k ≡ true))
-row_found k table answer h i =
-    let e : answer ≡ find (λ (r : Row). matches r k) rows = i ∙ (ap (λ (t : List Row). find (λ (r : Row). matches r k) t) h ∙ in_map k) in
-    subst (λ (o : Option Row). IfSome o (λ (r : Row). IsIn r rows × (matches r k ≡ true))) (sym e) (find-some (λ (r : Row). matches r k) rows)
-
--- a row of the key is what the search answers
-pub row_only : (k : Key) (table : List Row) (answer : Option Row) → table ≡ filter (λ (r : Row). same_map r.pattern.map k.map) rows → answer ≡ find (λ (r : Row). matches r k) table → (r : Row) → IsIn r rows → matches r k ≡ true → answer ≡ Some r
-row_only k table answer h i r there hit =
-    let e : answer ≡ find (λ (s : Row). matches s k) rows = i ∙ (ap (λ (t : List Row). find (λ (s : Row). matches s k) t) h ∙ in_map k) in
-    let found = find-there (λ (s : Row). matches s k) rows r there hit in
-    let is : answer ≡ Some found.0 = e ∙ found.1 in
-    let fact = subst (λ (o : Option Row). IfSome o (λ (s : Row). IsIn s rows × (matches s k ≡ true))) is (row_found k table answer h i) in
-    is ∙ ap (λ (s : Row). Some s) (one_row k found.0 r fact.0 there fact.1 hit)
 
 -- the search in all rows answers a row of the key
 pub find_is : (k : Key) (r : Row) → find (λ (s : Row). matches s k) rows ≡ Some r → IsIn r rows × (matches r k ≡ true)
@@ -123,3 +92,10 @@ find_answer k None found only = none_found k (find (λ (s : Row). matches s k) r
 -- a test that each row passes
 pub rows_all : (p : Row → Bool) → list_all p rows ≡ true → (r : Row) → IsIn r rows → p r ≡ true
 rows_all p h r i = all_at p rows h r i
+
+-- what the search in all rows answers
+pub row_found : (k : Key) (answer : Option Row) → answer ≡ find (λ (r : Row). matches r k) rows → IfSome answer (λ (r : Row). IsIn r rows × (matches r k ≡ true))
+row_found k answer e = subst (λ (o : Option Row). IfSome o (λ (r : Row). IsIn r rows × (matches r k ≡ true))) (sym e) (find-some (λ (r : Row). matches r k) rows)
+
+pub row_only : (k : Key) (answer : Option Row) → answer ≡ find (λ (r : Row). matches r k) rows → (r : Row) → IsIn r rows → matches r k ≡ true → answer ≡ Some r
+row_only k answer e r there hit = e ∙ find_row k r there hit

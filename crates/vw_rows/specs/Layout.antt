@@ -15,6 +15,7 @@ use Rattle.vw_rows.specs.declared.forms.Immediate.TheVariants as imm
 use Rattle.vw_rows.specs.declared.forms.Row.{Row}
 use Rattle.vw_rows.specs.Rows.{rows}
 use Rattle.vw_rows.specs.Lookup.{IsIn, key, matches}
+use Rattle.vw_rows.specs.Numbers.{byte_of}
 use Rattle.vw_rows.specs.Parts.{Modrm, Parts, mode, reg, rm, base, rex_w, rex_b}
 
 -- what a row is found by. Without ModRM the digit is 0 and the form is memory: no row without ModRM asks
@@ -38,7 +39,7 @@ has_modrm ops.Accumulator = false
 has_modrm ops.E = true
 has_modrm ops.OpcodeReg = false
 has_modrm ops.WithoutRexB = false
-has_modrm ops.Rm2 = true
+has_modrm ops.EndsInFa = false
 has_modrm ops.Xmm = true
 
 -- The width of variable operands: 64 with REX.W, 16 with 66, else 32 (SDM volume 2, 2.2.1.2). Both
@@ -115,7 +116,7 @@ iv_length W16 = 2
 iv_length W32 = 4
 iv_length W64 = 8
 
--- how many bytes of immediate there are
+-- how many bytes of immediate there are, or of the opcode behind the byte that the row is found by
 abbrev pub immediate_length : Immediate → Width → ℕ
 immediate_length imm.None w = 0
 immediate_length imm.Ib w = 1
@@ -126,17 +127,14 @@ immediate_length imm.Rel32 w = 4
 immediate_length imm.By1 w = 0
 immediate_length imm.Cl w = 0
 immediate_length imm.Iv w = iv_length w
+immediate_length imm.OpcodeByte w = 1
 
 -- REX has four bits
 abbrev pub IsRex : Option ℕ → Type 0
 IsRex rex = IfSome rex (λ bits. bits < 16)
 
--- the fields that a row fixes and that it is not found by: REX.B of 90 is 0, since with it 90 is XCHG of
--- r8 and rAX; r/m of F3 0F 1E FA is 2
-abbrev pub rm_is : ℕ → Option Modrm → Bool
-rm_is n None = false
-rm_is n (Some m) = rm m.byte == n
-
+-- what a row fixes and is not found by: REX.B of 90 is 0, since with it 90 is XCHG of r8 and rAX; the
+-- opcode of F3 0F 1E FA ends in FA, and what else begins with F3 0F 1E is no instruction here
 abbrev pub has_fixed : Operands → Parts → Bool
 has_fixed ops.None p = true
 has_fixed ops.EG p = true
@@ -145,7 +143,7 @@ has_fixed ops.Accumulator p = true
 has_fixed ops.E p = true
 has_fixed ops.OpcodeReg p = true
 has_fixed ops.WithoutRexB p = rex_b p.rex == 0
-has_fixed ops.Rm2 p = rm_is 2 p.modrm
+has_fixed ops.EndsInFa p = byte_of p.imm == 0xFA
 has_fixed ops.Xmm p = true
 
 -- The parts are those of an instruction of the row, at the width. A bit of REX, or a reg field, that no

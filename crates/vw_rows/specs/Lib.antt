@@ -1,5 +1,6 @@
 pub mod Rows
 pub mod Lookup
+pub mod Levels
 pub mod Numbers
 pub mod Parts
 pub mod Layout

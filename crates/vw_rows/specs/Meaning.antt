@@ -45,6 +45,7 @@ is_given imm.Rel32 = true
 is_given imm.By1 = true
 is_given imm.Cl = true
 is_given imm.Iv = true
+is_given imm.OpcodeByte = false
 
 -- the immediate where the row has one, else the operand
 abbrev pub source_or : Bool → Place → ℤ → Source
@@ -66,6 +67,7 @@ count_by imm.Rel32 n = count.Imm n
 count_by imm.By1 n = count.Imm n
 count_by imm.Cl n = count.Cl
 count_by imm.Iv n = count.Imm n
+count_by imm.OpcodeByte n = count.Imm n
 
 -- MOV of an immediate to a register is another variant where the immediate has 64 bits of its own
 abbrev pub mov_immediate : Width → Place → ℤ → ℕ → Insn

@@ -13,7 +13,8 @@ pub record Modrm : Type 0 where
   pub disp : List ℕ
 
 -- The parts of an instruction. `rex` has the bits W, R, X and B of the REX byte, which are 8, 4, 2 and 1
--- (SDM volume 2, table 2-4), and `opcode` is the opcode's last byte.
+-- (SDM volume 2, table 2-4), and `opcode` is the byte of the opcode map: the opcode's last byte, but of
+-- F3 0F 1E FA the one before it. There the last byte is `imm`.
 pub record Parts : Type 0 where
   pub prefix : Prefix
   pub rex : Option ℕ

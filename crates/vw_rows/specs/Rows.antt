@@ -292,7 +292,7 @@ rows =
     row 227 pre.PlainOr66 map.Two 0xBA false (Some 4) form.Register kind.Bt ops.E size.V imm.Ib ∷
     row 228 pre.Plain map.Two 0xC8 true None form.Any kind.Bswap ops.OpcodeReg size.V32Or64 imm.None ∷
     -- F3 0F 1E FA: endbr64
-    row 229 pre.PF3 map.Two 0x1E false (Some 7) form.Register kind.Endbr ops.Rm2 size.None imm.None ∷
+    row 229 pre.PF3 map.Two 0x1E false None form.Any kind.Endbr ops.EndsInFa size.None imm.OpcodeByte ∷
     -- 0F 10 movups movupd movss movsd
     row 230 pre.Plain map.Two 0x10 false None form.Any (kind.Xmm xmm.MovupsLoad) ops.Xmm size.Narrow imm.None ∷
     row 231 pre.P66 map.Two 0x10 false None form.Any (kind.Xmm xmm.MovupdLoad) ops.Xmm size.Narrow imm.None ∷

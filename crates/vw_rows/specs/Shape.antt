@@ -95,7 +95,7 @@ first_place ops.Accumulator kind w p = place.Reg Rax
 first_place ops.E kind w p = rm_place (rm_width kind w) p.rex p.modrm
 first_place ops.OpcodeReg kind w p = register_place w p.rex (p.opcode % 8 + 8 * rex_b p.rex)
 first_place ops.WithoutRexB kind w p = place.Reg Rax
-first_place ops.Rm2 kind w p = place.Reg Rax
+first_place ops.EndsInFa kind w p = place.Reg Rax
 first_place ops.Xmm kind w p = place.Reg Rax
 
 abbrev pub second_place : Operands → Kind → Width → Parts → Place
@@ -106,7 +106,7 @@ second_place ops.Accumulator kind w p = place.Reg Rax
 second_place ops.E kind w p = place.Reg Rax
 second_place ops.OpcodeReg kind w p = place.Reg Rax
 second_place ops.WithoutRexB kind w p = place.Reg Rax
-second_place ops.Rm2 kind w p = place.Reg Rax
+second_place ops.EndsInFa kind w p = place.Reg Rax
 second_place ops.Xmm kind w p = place.Reg Rax
 
 -- the operands of an instruction on XMM registers, by their numbers; else 0
@@ -118,7 +118,7 @@ xmm_register ops.Accumulator p = 0
 xmm_register ops.E p = 0
 xmm_register ops.OpcodeReg p = 0
 xmm_register ops.WithoutRexB p = 0
-xmm_register ops.Rm2 p = 0
+xmm_register ops.EndsInFa p = 0
 xmm_register ops.Xmm p = reg_number p.rex p.modrm
 
 abbrev pub xmm_second : Operands → Parts → XmmOperand
@@ -129,7 +129,7 @@ xmm_second ops.Accumulator p = xmm.Reg 0
 xmm_second ops.E p = xmm.Reg 0
 xmm_second ops.OpcodeReg p = xmm.Reg 0
 xmm_second ops.WithoutRexB p = xmm.Reg 0
-xmm_second ops.Rm2 p = xmm.Reg 0
+xmm_second ops.EndsInFa p = xmm.Reg 0
 xmm_second ops.Xmm p = xmm_operand p.rex p.modrm
 
 -- the immediate as a signed number, where the row reads it so, else 0
@@ -143,6 +143,7 @@ signed_immediate imm.Rel32 bytes = signed_of bytes
 signed_immediate imm.By1 bytes = pos 0
 signed_immediate imm.Cl bytes = pos 0
 signed_immediate imm.Iv bytes = signed_of bytes
+signed_immediate imm.OpcodeByte bytes = pos 0
 
 -- the immediate as an unsigned byte, and 1 for a shift by 1, else 0
 abbrev pub byte_immediate : Immediate → List ℕ → ℕ
@@ -155,6 +156,7 @@ byte_immediate imm.Rel32 bytes = 0
 byte_immediate imm.By1 bytes = 1
 byte_immediate imm.Cl bytes = 0
 byte_immediate imm.Iv bytes = 0
+byte_immediate imm.OpcodeByte bytes = 0
 
 -- what the parts of an instruction of the row name
 abbrev pub shape_of : Row → Width → Parts → Shape

@@ -41,7 +41,7 @@ pub enum Kind {
 
 /// Where an instruction's operands stand, in the letters of the SDM (volume 2, A.2.1): E is the
 /// register or memory of ModRM's r/m field, G the register of its reg field. All but `None`,
-/// `Accumulator`, `OpcodeReg` and `WithoutRexB` have a ModRM byte.
+/// `Accumulator`, `OpcodeReg`, `WithoutRexB` and `EndsInFa` have a ModRM byte.
 #[derive(Clone, Copy, Debug, PartialEq, Eq)]
 pub enum Operands {
     /// No register and no memory.
@@ -58,8 +58,8 @@ pub enum Operands {
     OpcodeReg,
     /// No operand, and REX.B is 0.
     WithoutRexB,
-    /// No operand, and the r/m field is 2.
-    Rm2,
+    /// No operand. One byte more belongs to the opcode, its last one, and is FA.
+    EndsInFa,
     /// An XMM or general register in the reg field, an XMM or general register or memory as E.
     Xmm,
 }
@@ -106,6 +106,8 @@ pub enum Immediate {
     Cl,
     /// Two, four or eight bytes by the width; sign-extended at 16 and 32.
     Iv,
+    /// No immediate: one byte that is the opcode's last, behind the one that the row is found by.
+    OpcodeByte,
 }
 
 /// One row: the opcode, digit, form and prefix that it is found by, and what it means.

@@ -1,8 +1,9 @@
 ghost use Rattle.std.specs.Prelude.{◌≡◌};
-ghost use Rattle.vw_rows.specs.Layout.{has_modrm, variable_width, wide_width, width_at, takes_sib, without_base, displacement_length, iz_length, iv_length, immediate_length, rm_is, has_fixed};
-ghost use Rattle.vw_rows.specs.Views.{optional_view, parts_view};
+ghost use Rattle.vw_rows.specs.Layout.{has_modrm, variable_width, wide_width, width_at, takes_sib, without_base, displacement_length, iz_length, iv_length, immediate_length, has_fixed};
+ghost use Rattle.vw_rows.specs.Views.{parts_view};
 
-use crate::parts::{Modrm, Parts, rex_b};
+use crate::numbers::byte_of;
+use crate::parts::{Parts, rex_b};
 use crate::{Immediate, Operands, Prefix, Sizing};
 use vw_insn::Width;
 
@@ -12,7 +13,7 @@ pub fn has_modrm(operands: Operands) -> bool
 {
     matches!(
         operands,
-        Operands::EG | Operands::GE | Operands::E | Operands::Rm2 | Operands::Xmm
+        Operands::EG | Operands::GE | Operands::E | Operands::Xmm
     )
 }
 
@@ -93,13 +94,13 @@ pub fn displacement_length(byte: u8, sib: Option<u8>) -> usize
     }
 }
 
-/// How many bytes an immediate of this form has at the width: 0, 1, 2, 4 or 8.
+/// How many bytes an immediate of this form has at the width, or the end of the opcode: 0, 1, 2, 4 or 8.
 pub fn immediate_length(immediate: Immediate, w: Width) -> usize
     ensures { result ≡ immediate_length immediate w }
 {
     match immediate {
         Immediate::None | Immediate::By1 | Immediate::Cl => 0,
-        Immediate::Ib | Immediate::Ub | Immediate::Rel8 => 1,
+        Immediate::Ib | Immediate::Ub | Immediate::Rel8 | Immediate::OpcodeByte => 1,
         Immediate::Iz => iz_length(w),
         Immediate::Rel32 => 4,
         Immediate::Iv => iv_length(w),
@@ -125,23 +126,14 @@ fn iv_length(w: Width) -> usize
     }
 }
 
-/// Whether the fields are as the operands want them that a row is not found by: REX.B of 90, and the r/m
-/// field of F3 0F 1E FA.
+/// Whether what a row is not found by is as the operands want it: REX.B of 90, and the last byte of
+/// F3 0F 1E FA.
 pub fn has_fixed(operands: Operands, parts: &Parts<'_>) -> bool
     ensures { result ≡ has_fixed operands (parts_view parts.now) }
 {
     match operands {
         Operands::WithoutRexB => rex_b(parts.rex) == 0,
-        Operands::Rm2 => rm_is(2, parts.modrm),
+        Operands::EndsInFa => byte_of(parts.imm) == 0xFA,
         _ => true,
-    }
-}
-
-fn rm_is(n: u8, modrm: Option<Modrm<'_>>) -> bool
-    ensures { result ≡ rm_is n (optional_view modrm.entry) }
-{
-    match modrm {
-        None => false,
-        Some(m) => m.byte % 8 == n,
     }
 }

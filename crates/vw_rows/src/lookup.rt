@@ -1,8 +1,10 @@
-ghost use Rattle.std.specs.Prelude.{◌≡◌, Bool, true, find, IfSome};
+ghost use Rattle.std.specs.Prelude.{◌≡◌, Bool, true, find, IfSome, slice_get};
 ghost use Rattle.vw_rows.specs.Rows.{rows};
 ghost use Rattle.vw_rows.specs.Lookup.{IsIn, key, matches, takes_prefix, has_opcode, has_digit, has_form, same_map};
+ghost use Rattle.vw_rows.specs.Levels.{numbered, with_digit};
 
-use crate::tables::rows_of;
+use crate::levels::entry_at;
+use crate::tables::all_rows;
 use crate::{Form, Key, Map, Pattern, Prefix, Prefixes, Row};
 
 /// The one row of an instruction with this prefix, map, opcode, reg field and form, or `None` where
@@ -12,14 +14,49 @@ pub fn row_of(prefix: Prefix, map: Map, opcode: u8, digit: u8, register_form: bo
     ensures found { IfSome result (λ r. IsIn r rows × (matches r (key prefix map opcode digit register_form) ≡ true)) }
     ensures only { (r : Row) → IsIn r rows → matches r (key prefix map opcode digit register_form) ≡ true → result ≡ Some r }
 {
-    let key = Key {
-        prefix,
-        map,
-        opcode,
-        digit,
-        register_form,
-    };
-    first_match(rows_of(map), key)
+    let entry = entry_at(prefix, map, opcode, digit % 8, register_form);
+    with_digit(row_of_entry(entry), digit)
+}
+
+/// The row of a number, 0 to 305, or `None` where no row has the number.
+pub fn row_numbered(number: u16) -> Option<Row>
+    ensures found { IfSome result (λ r. IsIn r rows × (r.number ≡ number)) }
+    ensures only { (r : Row) → IsIn r rows → r.number ≡ number → result ≡ Some r }
+{
+    row_placed(number)
+}
+
+fn row_placed(place: u16) -> Option<Row>
+    ensures { result ≡ slice_get rows place }
+{
+    all_rows().get(place as usize).copied()
+}
+
+#[tactic(auto, unfolding(crate::specs::Levels::numbered))]
+fn row_of_entry(entry: u16) -> Option<Row>
+    ensures { result ≡ numbered entry }
+{
+    if entry == 0 {
+        None
+    } else {
+        row_placed(entry - 1)
+    }
+}
+
+// The row, unless it asks another digit.
+fn with_digit(row: Option<Row>, digit: u8) -> Option<Row>
+    ensures { result ≡ with_digit row digit }
+{
+    match row {
+        None => None,
+        Some(found) => {
+            if accepts_digit(found.pattern.digit, digit) {
+                row
+            } else {
+                None
+            }
+        }
+    }
 }
 
 /// No key has two rows.
@@ -27,7 +64,7 @@ pub fn one_row_per_key()
     ensures { (k : Key) (r s : Row) → IsIn r rows → IsIn s rows → matches r k ≡ true → matches s k ≡ true → r ≡ s }
 {}
 
-fn first_match(rows: &[Row], key: Key) -> Option<Row>
+pub(crate) fn first_match(rows: &[Row], key: Key) -> Option<Row>
     ensures { result ≡ find (λ r. matches r key) rows.now }
 {
     rows.iter().copied().find(|row| is_match(row, key))

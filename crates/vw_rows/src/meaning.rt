@@ -154,7 +154,7 @@ fn is_given(i: Immediate) -> bool
     ensures { result ≡ is_given i }
 {
     match i {
-        Immediate::None => false,
+        Immediate::None | Immediate::OpcodeByte => false,
         _ => true,
     }
 }

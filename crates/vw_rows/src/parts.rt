@@ -19,10 +19,10 @@ pub struct Parts<'a> {
     /// The bits W, R, X and B of the REX byte, which are 8, 4, 2 and 1.
     pub rex: Option<u8>,
     pub map: Map,
-    /// The opcode's last byte.
+    /// The opcode's last byte, but of F3 0F 1E FA the one before it.
     pub opcode: u8,
     pub modrm: Option<Modrm<'a>>,
-    /// The immediate: none, one, two, four or eight bytes.
+    /// The immediate, none, one, two, four or eight bytes, or the last byte of F3 0F 1E FA.
     pub imm: &'a [u8],
 }
 

@@ -51,7 +51,7 @@ pub enum Form {
 pub struct Pattern {
     pub prefixes: Prefixes,
     pub map: Map,
-    /// The opcode's last byte.
+    /// The opcode's last byte, but of F3 0F 1E FA the one before it.
     pub opcode: u8,
     /// The low three bits of the opcode name a register (`+r`, SDM volume 2, 3.1.1.1): they are 0 in
     /// `opcode`, and free.
@@ -66,7 +66,7 @@ pub struct Pattern {
 pub struct Key {
     pub prefix: Prefix,
     pub map: Map,
-    /// The opcode's last byte.
+    /// The opcode's last byte, but of F3 0F 1E FA the one before it.
     pub opcode: u8,
     /// The reg field of ModRM. A row that asks no digit takes any.
     pub digit: u8,

@@ -277,7 +277,8 @@ fn signed_immediate(immediate: Immediate, bytes: &[u8]) -> i32
         Immediate::Ib | Immediate::Iz | Immediate::Rel8 | Immediate::Rel32 | Immediate::Iv => {
             signed_of(bytes)
         }
-        Immediate::None | Immediate::Ub | Immediate::By1 | Immediate::Cl => 0,
+        Immediate::None | Immediate::Ub | Immediate::By1 | Immediate::Cl | Immediate::OpcodeByte =>
+            0,
     }
 }
 

@@ -1,7 +1,5 @@
-ghost use Rattle.std.specs.Prelude.{◌≡◌, filter};
-ghost use Rattle.vw_rows.specs.declared.patterns.Map.TheVariants.{One, Two, Three};
+ghost use Rattle.std.specs.Prelude.{◌≡◌};
 ghost use Rattle.vw_rows.specs.Rows.{rows};
-ghost use Rattle.vw_rows.specs.Lookup.{same_map};
 
 use crate::{Form, Immediate, Kind, Map, Operands, Pattern, Prefixes, Row, Sizing};
 use vw_insn::{AluOp, BitsOp, Cond, MulDivOp, ShiftOp, UnaryOp, Width, XmmRow};
@@ -14,21 +12,11 @@ macro_rules! rows {
     };
 }
 
-/// The rows of the map, in the order of their numbers.
-pub fn rows_of(map: Map) -> &'static [Row]
-    ensures { result.now ≡ filter (λ r. same_map r.pattern.map map) rows }
+/// All rows, in the order of their numbers.
+pub fn all_rows() -> &'static [Row]
+    ensures { result.now ≡ rows }
 {
-    match map {
-        Map::One => rows_one(),
-        Map::Two => rows_two(),
-        Map::Three => rows_three(),
-    }
-}
-
-fn rows_one() -> &'static [Row]
-    ensures { result.now ≡ filter (λ r. same_map r.pattern.map One) rows }
-{
-    static ROWS: [Row; 166] = rows! {
+    static ROWS: [Row; 306] = rows! {
         0 Plain One 0x00 false None, Any (Kind::Alu(AluOp::Add)) EG B None;
         1 Plain One 0x08 false None, Any (Kind::Alu(AluOp::Or)) EG B None;
         2 Plain One 0x10 false None, Any (Kind::Alu(AluOp::Adc)) EG B None;
@@ -107,8 +95,13 @@ fn rows_one() -> &'static [Row]
         75 Plain One 0xFF false Some(6), Any (Kind::Push) E Q None;
         76 Plain One 0x58 true None, Any (Kind::Pop) OpcodeReg Q None;
         77 Plain One 0x63 false None, Any (Kind::Extend(true, Width::W32)) GE OnlyW None;
+        78 Plain Two 0xB6 false None, Any (Kind::Extend(false, Width::W8)) GE V32Or64 None;
+        79 Plain Two 0xB7 false None, Any (Kind::Extend(false, Width::W16)) GE V32Or64 None;
+        80 Plain Two 0xBE false None, Any (Kind::Extend(true, Width::W8)) GE V32Or64 None;
+        81 Plain Two 0xBF false None, Any (Kind::Extend(true, Width::W16)) GE V32Or64 None;
         82 PlainOr66 One 0x6B false None, Any (Kind::Imul) GE V Ib;
         83 PlainOr66 One 0x69 false None, Any (Kind::Imul) GE V Iz;
+        84 PlainOr66 Two 0xAF false None, Any (Kind::Imul) GE V None;
         85 Plain One 0x70 false None, Any (Kind::Jcc(Cond::O)) None None Rel8;
         86 Plain One 0x71 false None, Any (Kind::Jcc(Cond::No)) None None Rel8;
         87 Plain One 0x72 false None, Any (Kind::Jcc(Cond::B)) None None Rel8;
@@ -125,6 +118,22 @@ fn rows_one() -> &'static [Row]
         98 Plain One 0x7D false None, Any (Kind::Jcc(Cond::Ge)) None None Rel8;
         99 Plain One 0x7E false None, Any (Kind::Jcc(Cond::Le)) None None Rel8;
         100 Plain One 0x7F false None, Any (Kind::Jcc(Cond::G)) None None Rel8;
+        101 Plain Two 0x80 false None, Any (Kind::Jcc(Cond::O)) None None Rel32;
+        102 Plain Two 0x81 false None, Any (Kind::Jcc(Cond::No)) None None Rel32;
+        103 Plain Two 0x82 false None, Any (Kind::Jcc(Cond::B)) None None Rel32;
+        104 Plain Two 0x83 false None, Any (Kind::Jcc(Cond::Ae)) None None Rel32;
+        105 Plain Two 0x84 false None, Any (Kind::Jcc(Cond::E)) None None Rel32;
+        106 Plain Two 0x85 false None, Any (Kind::Jcc(Cond::Ne)) None None Rel32;
+        107 Plain Two 0x86 false None, Any (Kind::Jcc(Cond::Be)) None None Rel32;
+        108 Plain Two 0x87 false None, Any (Kind::Jcc(Cond::A)) None None Rel32;
+        109 Plain Two 0x88 false None, Any (Kind::Jcc(Cond::S)) None None Rel32;
+        110 Plain Two 0x89 false None, Any (Kind::Jcc(Cond::Ns)) None None Rel32;
+        111 Plain Two 0x8A false None, Any (Kind::Jcc(Cond::P)) None None Rel32;
+        112 Plain Two 0x8B false None, Any (Kind::Jcc(Cond::Np)) None None Rel32;
+        113 Plain Two 0x8C false None, Any (Kind::Jcc(Cond::L)) None None Rel32;
+        114 Plain Two 0x8D false None, Any (Kind::Jcc(Cond::Ge)) None None Rel32;
+        115 Plain Two 0x8E false None, Any (Kind::Jcc(Cond::Le)) None None Rel32;
+        116 Plain Two 0x8F false None, Any (Kind::Jcc(Cond::G)) None None Rel32;
         117 Plain One 0xEB false None, Any (Kind::Jump) None None Rel8;
         118 Plain One 0xE9 false None, Any (Kind::Jump) None None Rel32;
         119 Plain One 0xE8 false None, Any (Kind::Call) None None Rel32;
@@ -147,6 +156,7 @@ fn rows_one() -> &'static [Row]
         136 PlainOr66 One 0xB8 true None, Any (Kind::MovImm) OpcodeReg V Iv;
         137 PlainOr66 One 0x8D false None, Memory (Kind::Lea) GE V None;
         138 PlainOr66 One 0x90 false None, Any (Kind::Nop) WithoutRexB None None;
+        139 PlainOr66 Two 0x1F false Some(0), Any (Kind::Nop) E V None;
         140 PlainOr66 One 0x98 false None, Any (Kind::Widen) None V None;
         141 PlainOr66 One 0x99 false None, Any (Kind::SignA) None V None;
         142 Plain One 0xC0 false Some(0), Any (Kind::Shift(ShiftOp::Rol)) E B Ub;
@@ -195,36 +205,6 @@ fn rows_one() -> &'static [Row]
         185 PlainOr66 One 0xF7 false Some(5), Any (Kind::MulDiv(MulDivOp::Imul)) E V None;
         186 PlainOr66 One 0xF7 false Some(6), Any (Kind::MulDiv(MulDivOp::Div)) E V None;
         187 PlainOr66 One 0xF7 false Some(7), Any (Kind::MulDiv(MulDivOp::Idiv)) E V None;
-    };
-    &ROWS
-}
-
-fn rows_two() -> &'static [Row]
-    ensures { result.now ≡ filter (λ r. same_map r.pattern.map Two) rows }
-{
-    static ROWS: [Row; 138] = rows! {
-        78 Plain Two 0xB6 false None, Any (Kind::Extend(false, Width::W8)) GE V32Or64 None;
-        79 Plain Two 0xB7 false None, Any (Kind::Extend(false, Width::W16)) GE V32Or64 None;
-        80 Plain Two 0xBE false None, Any (Kind::Extend(true, Width::W8)) GE V32Or64 None;
-        81 Plain Two 0xBF false None, Any (Kind::Extend(true, Width::W16)) GE V32Or64 None;
-        84 PlainOr66 Two 0xAF false None, Any (Kind::Imul) GE V None;
-        101 Plain Two 0x80 false None, Any (Kind::Jcc(Cond::O)) None None Rel32;
-        102 Plain Two 0x81 false None, Any (Kind::Jcc(Cond::No)) None None Rel32;
-        103 Plain Two 0x82 false None, Any (Kind::Jcc(Cond::B)) None None Rel32;
-        104 Plain Two 0x83 false None, Any (Kind::Jcc(Cond::Ae)) None None Rel32;
-        105 Plain Two 0x84 false None, Any (Kind::Jcc(Cond::E)) None None Rel32;
-        106 Plain Two 0x85 false None, Any (Kind::Jcc(Cond::Ne)) None None Rel32;
-        107 Plain Two 0x86 false None, Any (Kind::Jcc(Cond::Be)) None None Rel32;
-        108 Plain Two 0x87 false None, Any (Kind::Jcc(Cond::A)) None None Rel32;
-        109 Plain Two 0x88 false None, Any (Kind::Jcc(Cond::S)) None None Rel32;
-        110 Plain Two 0x89 false None, Any (Kind::Jcc(Cond::Ns)) None None Rel32;
-        111 Plain Two 0x8A false None, Any (Kind::Jcc(Cond::P)) None None Rel32;
-        112 Plain Two 0x8B false None, Any (Kind::Jcc(Cond::Np)) None None Rel32;
-        113 Plain Two 0x8C false None, Any (Kind::Jcc(Cond::L)) None None Rel32;
-        114 Plain Two 0x8D false None, Any (Kind::Jcc(Cond::Ge)) None None Rel32;
-        115 Plain Two 0x8E false None, Any (Kind::Jcc(Cond::Le)) None None Rel32;
-        116 Plain Two 0x8F false None, Any (Kind::Jcc(Cond::G)) None None Rel32;
-        139 PlainOr66 Two 0x1F false Some(0), Any (Kind::Nop) E V None;
         188 Plain Two 0x0B false None, Any (Kind::Ud2) None None None;
         189 PlainOr66 Two 0x40 false None, Any (Kind::Cmov(Cond::O)) GE V None;
         190 PlainOr66 Two 0x41 false None, Any (Kind::Cmov(Cond::No)) GE V None;
@@ -266,7 +246,7 @@ fn rows_two() -> &'static [Row]
         226 PlainOr66 Two 0xA3 false None, Register (Kind::Bt) EG V None;
         227 PlainOr66 Two 0xBA false Some(4), Register (Kind::Bt) E V Ib;
         228 Plain Two 0xC8 true None, Any (Kind::Bswap) OpcodeReg V32Or64 None;
-        229 PF3 Two 0x1E false Some(7), Register (Kind::Endbr) Rm2 None None;
+        229 PF3 Two 0x1E false None, Any (Kind::Endbr) EndsInFa None OpcodeByte;
         230 Plain Two 0x10 false None, Any (Kind::Xmm(XmmRow::MovupsLoad)) Xmm Narrow None;
         231 P66 Two 0x10 false None, Any (Kind::Xmm(XmmRow::MovupdLoad)) Xmm Narrow None;
         232 PF3 Two 0x10 false None, Any (Kind::Xmm(XmmRow::MovssLoad)) Xmm Narrow None;
@@ -341,14 +321,6 @@ fn rows_two() -> &'static [Row]
         301 Plain Two 0x2F false None, Any (Kind::Xmm(XmmRow::Comiss)) Xmm Narrow None;
         302 P66 Two 0x2F false None, Any (Kind::Xmm(XmmRow::Comisd)) Xmm Narrow None;
         303 P66 Two 0xEF false None, Any (Kind::Xmm(XmmRow::Pxor)) Xmm Narrow None;
-    };
-    &ROWS
-}
-
-fn rows_three() -> &'static [Row]
-    ensures { result.now ≡ filter (λ r. same_map r.pattern.map Three) rows }
-{
-    static ROWS: [Row; 2] = rows! {
         304 P66 Three 0x0A false None, Any (Kind::Xmm(XmmRow::Roundss)) Xmm Narrow Ub;
         305 P66 Three 0x0B false None, Any (Kind::Xmm(XmmRow::Roundsd)) Xmm Narrow Ub;
     };

@@ -1,8 +1,10 @@
+use crate::laws::row_search;
 use crate::{Kind, Map, Prefix, row_of};
 use vw_insn::{AluOp, BitsOp, ShiftOp, UnaryOp, XmmRow};
 
 /// Opcodes of the SDM's maps, by prefix, map, opcode, reg field and whether mod is 3, and the number
-/// of the row by a count of the opcode list from its top.
+/// of the row by a count of the opcode list from its top. F3 0F 1E is the front of F3 0F 1E FA, which has no
+/// ModRM.
 #[test]
 fn finds_the_rows_of_the_opcode_maps(rt: HostRuntime) {
     let cases = [
@@ -63,6 +65,23 @@ fn finds_the_rows_of_the_opcode_maps(rt: HostRuntime) {
         (Prefix::P66, Map::Two, 0xC9, 1, true, None),
         (Prefix::PF2, Map::One, 0x90, 0, true, None),
         (
+            Prefix::PF3,
+            Map::Two,
+            0x1E,
+            0,
+            false,
+            Some((229, Kind::Endbr)),
+        ),
+        (
+            Prefix::PF3,
+            Map::Two,
+            0x1E,
+            255,
+            true,
+            Some((229, Kind::Endbr)),
+        ),
+        (Prefix::Plain, Map::Two, 0x1E, 7, true, None),
+        (
             Prefix::P66,
             Map::Three,
             0x0B,
@@ -75,5 +94,7 @@ fn finds_the_rows_of_the_opcode_maps(rt: HostRuntime) {
         let found = row_of(prefix, map, opcode, digit, register_form);
         let told = found.map(|row| (row.number, row.kind));
         assert!(rt; told == want, "at {opcode}");
+        let sought = row_search(prefix, map, opcode, digit, register_form);
+        assert!(rt; sought == found, "searched at {opcode}");
     }
 }

@@ -6,7 +6,7 @@ pub loop-bits-init : goal.loop-bits-init
 loop-bits-init c = no_rex c.args.row c.args.insn.now c.args.prefix c.in_default.ensures
 
 pub loop-bits-preserved : goal.loop-bits-preserved
-loop-bits-preserved c = one_rex c.args.row c.args.insn.now c.args.prefix c.loop-bits.bits c.in_default-with_rex.ensures c.loop-bits.invariant
+loop-bits-preserved c = one_rex c.args.row c.args.insn.now c.args.prefix c.loop-bits.bits c.in_default-with_bits.ensures c.loop-bits.invariant
 
 pub returns : goal.returns
 returns c = all_rex c.args.row c.args.insn.now c.args.prefix c.loop-bits.bits c.loop-bits-test.false c.loop-bits.invariant
@@ -14,5 +14,5 @@ returns c = all_rex c.args.row c.args.insn.now c.args.prefix c.loop-bits.bits c.
 pub returns-in-Some : goal.returns-in-Some
 returns-in-Some c = first_no_rex c.in-Some.spelled c.args.row c.args.insn.now c.args.prefix c.in-Some.ensures
 
-pub returns-in-Some-with_rex : goal.returns-in-Some-with_rex
-returns-in-Some-with_rex c = first_rex c.in-Some-with_rex.spelled c.args.row c.args.insn.now c.args.prefix c.loop-bits.bits c.loop-bits.invariant c.in-Some-with_rex.ensures
+pub returns-in-Some-with_bits : goal.returns-in-Some-with_bits
+returns-in-Some-with_bits c = first_rex c.in-Some-with_bits.spelled c.args.row c.args.insn.now c.args.prefix c.loop-bits.bits c.loop-bits.invariant c.in-Some-with_bits.ensures

@@ -1,0 +1,86 @@
+ghost use Rattle.std.specs.Prelude.{◌≡◌, ◌<◌, Some};
+ghost use Rattle.vw_encode.specs.Normal.{reads_w, reads_r, reads_x, reads_b, is_byte, extends_byte, reads_byte, kept, lean_bits, is_lean};
+
+use vw_insn::Width;
+use vw_rows::{Kind, Operands, Row, Sizing};
+
+/// Whether each set bit of REX is one that the row reads, and there is one, or REX is needed for itself.
+pub(crate) fn is_lean(row: Row, bits: u8) -> bool
+    ensures { result ≡ is_lean row (Some bits) }
+{
+    lean_bits(row, bits) == bits && (reads_byte(row) || bits != 0)
+}
+
+fn lean_bits(row: Row, bits: u8) -> u8
+    ensures { result ≡ lean_bits (reads_w row.width) (reads_r row.operands) (reads_x row.operands) (reads_b row.operands) bits }
+{
+    let w = kept(reads_w(row.width), bits / 8 % 2);
+    let r = kept(reads_r(row.operands), bits / 4 % 2);
+    let x = kept(reads_x(row.operands), bits / 2 % 2);
+    let b = kept(reads_b(row.operands), bits % 2);
+    w * 8 + r * 4 + x * 2 + b
+}
+
+fn kept(is_read: bool, bit: u8) -> u8
+    requires { bit < 2 }
+    ensures is { result ≡ kept is_read bit }
+    ensures bound { result < 2 }
+{
+    if is_read { bit } else { 0 }
+}
+
+fn reads_w(sizing: Sizing) -> bool
+    ensures { result ≡ reads_w sizing }
+{
+    match sizing {
+        Sizing::V | Sizing::V32Or64 | Sizing::OnlyW | Sizing::Narrow | Sizing::Wide => true,
+        Sizing::None | Sizing::B | Sizing::Q => false,
+    }
+}
+
+fn reads_r(operands: Operands) -> bool
+    ensures { result ≡ reads_r operands }
+{
+    matches!(operands, Operands::EG | Operands::GE | Operands::Xmm)
+}
+
+fn reads_x(operands: Operands) -> bool
+    ensures { result ≡ reads_x operands }
+{
+    matches!(
+        operands,
+        Operands::EG | Operands::GE | Operands::E | Operands::Xmm
+    )
+}
+
+fn reads_b(operands: Operands) -> bool
+    ensures { result ≡ reads_b operands }
+{
+    matches!(
+        operands,
+        Operands::EG
+            | Operands::GE
+            | Operands::E
+            | Operands::OpcodeReg
+            | Operands::WithoutRexB
+            | Operands::Xmm
+    )
+}
+
+fn reads_byte(row: Row) -> bool
+    ensures { result ≡ reads_byte row }
+{
+    is_byte(row.width) || extends_byte(row.kind)
+}
+
+fn is_byte(sizing: Sizing) -> bool
+    ensures { result ≡ is_byte sizing }
+{
+    matches!(sizing, Sizing::B)
+}
+
+fn extends_byte(kind: Kind) -> bool
+    ensures { result ≡ extends_byte kind }
+{
+    matches!(kind, Kind::Extend(_, Width::W8))
+}

@@ -1,8 +1,0 @@
--- The table and the list of rows compute to the same.
-use Rattle.std.proofs.Common.{refl}
-use Rattle.vw_rows.specs.Rows.{rows}
-use Rattle.vw_rows.proofs.tables.rows_three.Goals as goal
-
-pub returns : goal.returns
-unfolding rows
-returns c = refl
