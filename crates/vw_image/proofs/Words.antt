@@ -1,11 +1,13 @@
 -- What words, ranges and stubs are, from what an index finds.
-use Rattle.std.proofs.Common.{◌≡◌, ◌≢◌, ℕ, ◌==◌, Bool, true, false, cond, List, length, Option, Some, None, option_map, refl, ap, subst, arith}
+use Rattle.std.proofs.Common.{◌≡◌, ◌≢◌, ℕ, ◌==◌, Bool, true, false, cond, List, length, Option, Some, None, IfSome, option_map, refl, ap, subst, arith}
 use Rattle.std.specs.List.{find, list_any}
+use Rattle.std.specs.Option.{option_map_or}
 use Rattle.std.proofs.lemmas.Bool.Decides.{nat_tests}
 use Rattle.vw_bits.specs.Fields.{load}
 use Rattle.vw_dynamic.specs.declared.dynamic.Relocation.{Relocation}
 use Rattle.vw_dynamic.specs.declared.dynamic.RelKind.{RelKind}
 use Rattle.vw_dynamic.specs.declared.dynamic.RelKind.TheVariants.{Based as BasedKind, Bound as BoundKind}
+use Rattle.vw_image.specs.declared.word.Word.{Word}
 use Rattle.vw_image.specs.declared.word.Word.TheVariants.{Plain, Mixed, Outside}
 use Rattle.vw_image.specs.Image.{Contents, IsImage, memory_byte, touches}
 use Rattle.vw_image.specs.Index.{kind_at}
@@ -82,3 +84,24 @@ word_of-numbered image a kind is found =
     let r = relocation_at image.relocations a kind found in
     let below : IsNumberedKind (length image.imports) r.0.kind = find-holds (λ s. IsNumberedKind (length image.imports) s.kind) (λ s. s.place == a) image.relocations r.0 (image-numbered image is) r.1 in
     numbered_word (length image.imports) kind (subst (IsNumberedKind (length image.imports)) r.2 below)
+
+-- no number of a word is past those of the imports
+numbered_found : (image : Contents) (a : ℕ) (eight : Bool) (found : Option RelKind) → IsImage image → kind_at image.relocations a ≡ found → IfSome (cond eight found None) (λ kind. IsNumbered (length image.imports) (word_of kind))
+numbered_found image a false found is at = tt
+numbered_found image a true None is at = tt
+numbered_found image a true (Some kind) is at = word_of-numbered image a kind is at
+
+numbered_rest : (count number : ℕ) (touched inside : Bool) → IsNumbered count (cond touched Mixed (cond inside (Plain number) Outside))
+numbered_rest count number true inside = tt
+numbered_rest count number false true = tt
+numbered_rest count number false false = tt
+
+numbered_either : (count : ℕ) (found : Option RelKind) (rest : Word) → IfSome found (λ kind. IsNumbered count (word_of kind)) → IsNumbered count rest → IsNumbered count (option_map_or word_of found rest)
+numbered_either count None rest found behind = behind
+numbered_either count (Some kind) rest found behind = found
+
+pub word_at-numbered : (image : Contents) → IsImage image → (a size : ℕ) → IsNumbered (length image.imports) (word_at image a size)
+unfolding word_at
+word_at-numbered image is a size =
+    numbered_either (length image.imports) (exact image a size) _ (numbered_found image a (size == 8) (kind_at image.relocations a) is refl)
+    (numbered_rest (length image.imports) _ (list_any (touches a size) image.relocations) (in_readable image.segments a size))

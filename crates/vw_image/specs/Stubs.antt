@@ -1,7 +1,7 @@
 -- Stubs: FF /4 with mod 0 and base 5 is JMP [rip + disp32], F2 in front makes it a bound-checked one, and
 -- F3 0F 1E FA is ENDBR64 (Intel SDM, volume 2, "JMP", "ENDBR64", and 2.2.1.6, "RIP-Relative Addressing";
 -- volume 1, 16.5.3.2, the BND prefix).
-use Rattle.std.specs.Prelude.{ℕ, ◌+◌, ◌%◌, ◌^◌, Bool, true, ◌&&◌, ◌==◌, List, [], ◌∷◌, length, Option, Some, None, option_map, option_and_then}
+use Rattle.std.specs.Prelude.{ℕ, ◌+◌, ◌%◌, ◌^◌, ◌<◌, Bool, true, ◌&&◌, ◌==◌, List, [], ◌∷◌, length, Option, Some, None, option_map, option_and_then}
 use Rattle.std.specs.List.{find, list_any}
 use Rattle.vw_bits.specs.Fields.{load}
 use Rattle.vw_bits.specs.Words.{sign_extended}
@@ -11,6 +11,7 @@ use Rattle.vw_bits.specs.declared.records.Segment.{Segment}
 use Rattle.vw_image.specs.declared.word.Word.{Word}
 use Rattle.vw_image.specs.declared.word.Word.TheVariants.{Plain, Based, Bound, Mixed, Outside}
 use Rattle.vw_image.specs.declared.stub.Stub.{Stub}
+use Rattle.vw_image.specs.declared.stub.StubTo.{StubTo}
 use Rattle.vw_image.specs.declared.stub.StubTo.TheVariants.{Import, Inside}
 use Rattle.vw_image.specs.Image.{Contents, memory_byte}
 use Rattle.vw_image.specs.Words.{word_at}
@@ -61,3 +62,8 @@ stub_to slot Outside = None
 -- the stub at an address
 unfoldable pub stub_at : Contents → ℕ → Option Stub
 stub_at image a = option_and_then (λ slot. stub_to slot (word_at image slot 8)) (slot_at image.bytes image.segments a)
+
+-- the number of an import to which a stub goes is below `count`
+abbrev pub IsBound : ℕ → StubTo → Type 0
+IsBound count (Import number) = number < count
+IsBound count (Inside address) = Unit {0}

@@ -1,10 +1,10 @@
-ghost use Rattle.std.specs.Prelude.{◌≡◌, length, None, option_copied, IfOk};
+ghost use Rattle.std.specs.Prelude.{◌≡◌, length, None, option_copied, IfOk, IfSome};
 ghost use Rattle.vw_bits.specs.Headers.{segments_of};
 ghost use Rattle.vw_bits.specs.HeaderRules.{header_fault};
 ghost use Rattle.vw_dynamic.specs.Dynamic.{dynamic_fault, file_relocations, file_imports};
 ghost use Rattle.vw_image.specs.Image.{image_of, IsImage};
 ghost use Rattle.vw_image.specs.Words.{word_at, readable, bytes_at, word_of};
-ghost use Rattle.vw_image.specs.Stubs.{stub_at};
+ghost use Rattle.vw_image.specs.Stubs.{stub_at, IsBound};
 ghost use Rattle.vw_image.specs.Laws.{IsSize, IsNumbered};
 
 use crate::index::{bound_by_place, by_place, touches};
@@ -140,9 +140,11 @@ impl Image {
     /// The stub at an address: a jump through a word that is bound to an import or based, where the bytes
     /// `FF 25 disp32` stand there in the memory of one segment with the right to execute, or these behind
     /// ENDBR64, `F3 0F 1E FA`, or behind ENDBR64 and F2. `None` exactly where there is none. Whether the address
-    /// of a based word is one to jump to is left to the caller. Takes no memory.
+    /// of a based word is one to jump to is left to the caller. The number of an import is one of an import. Takes
+    /// no memory.
     pub fn stub_at(&self, a: u64) -> Option<Stub>
-        ensures { result ≡ stub_at self.now a }
+        ensures value { result ≡ stub_at self.now a }
+        ensures numbered { IfSome result (λ stub. IsBound (length self.now.imports) stub.to) }
     {
         let slot = slot_at(self.bytes.as_slice(), self.segments.as_slice(), a)?;
         stub_to(slot, self.word_at(slot, 8))

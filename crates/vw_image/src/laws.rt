@@ -7,7 +7,7 @@ ghost use Rattle.vw_image.specs.Bounds.{AreBounded};
 ghost use Rattle.vw_image.specs.Image.{Contents, IsImage, memory_byte, image_byte};
 ghost use Rattle.vw_image.specs.Words.{word_at, readable, bytes_at};
 ghost use Rattle.vw_image.specs.Stubs.{in_executable};
-ghost use Rattle.vw_image.specs.Laws.{IsSize, Gives, image_word};
+ghost use Rattle.vw_image.specs.Laws.{IsSize, IsNumbered, Gives, image_word};
 
 /// What a word says is what its bytes spell after relocation, for every load address and all addresses of the
 /// imports.
@@ -15,6 +15,11 @@ pub fn words_spell()
     ensures { (image : Contents) → IsImage image → (a size : ℕ) → IsSize size
         → (base : ℕ) (hosts : ℕ → ℕ) → ((number : ℕ) → hosts number < 2 ^ 64)
         → Gives base hosts (word_at image a size) (image_word image base hosts a size) }
+{}
+
+/// The numbers of imports that words name are those of imports.
+pub fn words_are_numbered()
+    ensures { (image : Contents) → IsImage image → (a size : ℕ) → IsNumbered (length image.imports) (word_at image a size) }
 {}
 
 /// A readable range has the same bytes whatever the addresses of the imports are.

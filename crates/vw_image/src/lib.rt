@@ -11,7 +11,8 @@ mod word;
 
 pub use image::Image;
 pub use laws::{
-    code_is_settled, file_bytes_are_memory, readable_is_settled, segments_are_bounded, words_spell,
+    code_is_settled, file_bytes_are_memory, readable_is_settled, segments_are_bounded,
+    words_are_numbered, words_spell,
 };
 pub use stub::{Stub, StubTo};
 pub use word::Word;

@@ -7,7 +7,8 @@ use Rattle.std.proofs.lemmas.Bool.Decides.{nat_tests}
 use Rattle.std.proofs.lemmas.List.{append-nil, length-map, length-take-le, get_or-map, get_or-take}
 use Rattle.std.proofs.lemmas.List.Folds.{list_any_at}
 use Rattle.std.proofs.lemmas.Option.{slice_get_within, get_or_from_slice_get}
-use Rattle.vw_bits.specs.Rules.{each_after, with_earlier}
+use Rattle.vw_bits.specs.Rules.{each_after, with_earlier, AllHold}
+use Rattle.vw_bits.specs.declared.records.Segment.{Segment}
 use Rattle.vw_bits.proofs.RuleLemmas.{lowest-each}
 use Rattle.vw_layout.specs.Bounds.{Rises}
 use Rattle.vw_layout.specs.Functions.{symbol_offset, placed, addresses_of, by_address, first_at, share_byte, first_overlap, is_excess, first_excess, function_of, functions_of, function_rules}
@@ -167,16 +168,22 @@ few_addresses symbols none =
     let exceeds : List SymbolEntry × SymbolEntry → Bool = λ p. is_excess p.0 p.1 in
     few_after [] symbols (unmapped (λ (p : List SymbolEntry × SymbolEntry). p.1) (find exceeds (with_earlier symbols)) none) (rw addresses-none (omega arith))
 
+pub few_by_rule : (bytes : List ℕ) (symbols : List SymbolEntry) → symbol_offset (first_excess symbols) ≡ None → length (functions_of bytes symbols) ≤ 65536
+unfolding functions_of by_address
+few_by_rule bytes symbols holds =
+    let addresses = addresses_of symbols in
+    let few : length addresses ≤ 65536 = few_addresses symbols (unfound (first_excess symbols) holds) in
+    let most : length (filter_map (first_at symbols) addresses) ≤ length addresses = length-filter_map (first_at symbols) addresses in
+    let count : length (map (function_of bytes) (filter_map (first_at symbols) addresses)) ≡ length (filter_map (first_at symbols) addresses) = length-map (filter_map (first_at symbols) addresses) (function_of bytes) in
+    omega (arith, few, most, count)
+
+pub few_by_rules : (bytes : List ℕ) (segments : List Segment) (symbols : List SymbolEntry) → AllHold (function_rules bytes segments symbols) → length (functions_of bytes symbols) ≤ 65536
+unfolding function_rules
+few_by_rules bytes segments symbols holds = few_by_rule bytes symbols (lowest-each 1 (function_rules bytes segments symbols) holds 4)
+
 rule_31 : (file : List ℕ) → IsModule file → symbol_offset (first_excess (function_symbols file)) ≡ None
 unfolding layout_fault function_rules
 rule_31 file is = lowest-each 27 (layout_rules file) (layout_holds file is) 4
 
 pub few_functions : (file : List ℕ) → IsModule file → length (declared_functions file) ≤ 65536
-unfolding functions_of by_address
-few_functions file is =
-    let symbols = function_symbols file in
-    let addresses = addresses_of symbols in
-    let few : length addresses ≤ 65536 = few_addresses symbols (unfound (first_excess symbols) (rule_31 file is)) in
-    let most : length (filter_map (first_at symbols) addresses) ≤ length addresses = length-filter_map (first_at symbols) addresses in
-    let count : length (map (function_of file) (filter_map (first_at symbols) addresses)) ≡ length (filter_map (first_at symbols) addresses) = length-map (filter_map (first_at symbols) addresses) (function_of file) in
-    omega (arith, few, most, count)
+few_functions file is = few_by_rule file (function_symbols file) (rule_31 file is)

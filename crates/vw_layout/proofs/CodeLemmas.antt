@@ -51,18 +51,18 @@ All-filter : {X : Type 0} (p : X → Bool) (xs : List X) → All (λ x. p x ≡ 
 All-filter p [] = All-nil (λ x. p x ≡ true)
 All-filter p (x ∷ xs) = All-kept p x (filter p xs) (p x) refl (All-filter p xs)
 
-abbrev OnePasses : {X : Type 0} → (X → Bool) → List X → Type 0
+abbrev pub OnePasses : {X : Type 0} → (X → Bool) → List X → Type 0
 OnePasses {X} p xs = (x : X) × Contains xs x × (p x ≡ true)
 
 one_of : {X : Type 0} (p : X → Bool) (x : X) (xs : List X) (passes : Bool) → p x ≡ passes → (passes || list_any p xs) ≡ true → (list_any p xs ≡ true → OnePasses p xs) → OnePasses p (x ∷ xs)
 one_of p x xs true passes h later = (x, (0, omega arith, refl), passes)
 one_of p x xs false passes h later = let found = later h in (found.0, (suc found.1.0, omega (arith, found.1.1), found.1.2), found.2)
 
-one_passes : {X : Type 0} (p : X → Bool) (xs : List X) → list_any p xs ≡ true → OnePasses p xs
+pub one_passes : {X : Type 0} (p : X → Bool) (xs : List X) → list_any p xs ≡ true → OnePasses p xs
 one_passes p [] some = absurd (false≢true some)
 one_passes p (x ∷ xs) some = one_of p x xs (p x) refl some (one_passes p xs)
 
-at_place : {X : Type 0} (P : X → Type 0) (xs : List X) (x : X) → All P xs → Contains xs x → P x
+pub at_place : {X : Type 0} (P : X → Type 0) (xs : List X) (x : X) → All P xs → Contains xs x → P x
 at_place P xs x all (k, inside, is) = subst P is (all k x inside)
 
 -- rules

@@ -1,7 +1,8 @@
 -- What rule 36 gives of the imports: their names differ, each is the name of a bound import, so that there are at
 -- most 65,536.
-use Rattle.std.proofs.Common.{◌≡◌, ℕ, ◌≤◌, ◌<◌, ◌==◌, Bool, true, false, not, cond, nat_lt, List, [], ◌∷◌, ◌++◌, length, get_or, map, filter, All, AllPairs, fold, Option, Some, None, IfSome, option_map, unwrap_or, refl, sym, ap, ◌∙◌, arith, ⊎_elim}
-use Rattle.std.specs.List.{find, filter_map, cons_option, list_any, position, position_or_len}
+use Rattle.std.proofs.Common.{◌≡◌, ℕ, ◌≤◌, ◌<◌, ◌==◌, Bool, true, false, not, cond, nat_lt, List, [], ◌∷◌, ◌++◌, length, get_or, map, filter, All, AllPairs, fold, Option, Some, None, IfSome, option_map, unwrap_or, refl, sym, ap, ◌∙◌, arith, ⊎_elim, subst}
+use Rattle.std.proofs.lemmas.Option.{slice_get_within, get_or_from_slice_get}
+use Rattle.std.specs.List.{slice_get, find, filter_map, cons_option, list_any, position, position_or_len}
 use Rattle.std.specs.Option.{option_map_or}
 use Rattle.std.specs.Str.{bytes_eq}
 use Rattle.std.proofs.lemmas.Bool.{false≢true, cases_lt}
@@ -168,3 +169,24 @@ rule_36 file is = lowest-each 27 (layout_rules file) (layout_holds file is) 9
 pub few_imports : (file : List ℕ) → IsModule file → length (file_imports file) ≤ 65536
 unfolding file_imports file_relocations
 few_imports file is = few_of _ _ _ _ _ (rule_36 file is)
+
+-- the names of a file's imports differ
+differ_imports : (bytes : List ℕ) (segments : List Segment) (strings : List ℕ) (symtab : Option ℕ) (relas : List Rela) → Differ (imports_of bytes segments strings symtab relas)
+unfolding imports_of
+differ_imports bytes segments strings symtab relas = differ_distinct (filter_map (import_of bytes segments strings symtab) relas)
+
+differ_file : (file : List ℕ) → Differ (file_imports file)
+unfolding file_imports
+differ_file file = differ_imports _ _ _ _ _
+
+number_of_name : (names : List (List ℕ)) (k : ℕ) (name : List ℕ) → Differ names → slice_get names k ≡ Some name → position (bytes_eq name) names ≡ Some k
+number_of_name names k name differ at =
+    let here : get_or names k [] ≡ name = get_or_from_slice_get names k name [] at in
+    let P : List ℕ → Type 0 = λ n. position (bytes_eq n) names ≡ Some k in
+    subst P here (own_number names k differ (slice_get_within names k name at))
+
+pub one_number : (file : List ℕ) (j k : ℕ) (name : List ℕ) → slice_get (file_imports file) j ≡ Some name → slice_get (file_imports file) k ≡ Some name → j ≡ k
+one_number file j k name at_j at_k =
+    let first = number_of_name (file_imports file) j name (differ_file file) at_j in
+    let second = number_of_name (file_imports file) k name (differ_file file) at_k in
+    cc

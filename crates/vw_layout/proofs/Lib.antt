@@ -10,3 +10,5 @@ pub mod SearchLemmas
 pub mod CodeLemmas
 pub mod ApartLemmas
 pub mod ImportLemmas
+pub mod CallLemmas
+pub mod EntryLemmas

@@ -210,7 +210,7 @@ low_place bytes symbols k short inside =
     let low : (get_or firsts k blank).symbol.value < 2 ^ 32 = here.at in
     omega (arith, above, same, low)
 
-none_function : Function
+pub none_function : Function
 none_function = record { entry = 0; size = 0; name = [] }
 
 pub place_fits : (bytes : List ℕ) (functions : List Function) (p : Function → Bool) (k : ℕ) → IsModule bytes → functions ≡ declared_functions bytes → position p functions ≡ Some k → k < 2 ^ 32

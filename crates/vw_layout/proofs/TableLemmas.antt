@@ -104,7 +104,7 @@ data_below (segment ∷ more) a n bounded some =
       | inr there ↦ data_below more a n (All-tail (IsBounded (2 ^ 32)) segment more bounded) there
     ]
 
-passed : (b : Bool) → not b ≡ false → b ≡ true
+pub passed : (b : Bool) → not b ≡ false → b ≡ true
 passed true h = refl
 passed false h = cc
 

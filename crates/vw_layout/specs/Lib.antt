@@ -2,6 +2,7 @@ pub mod Faults
 pub mod Bounds
 pub mod Symbols
 pub mod Functions
+pub mod Calls
 pub mod Tables
 pub mod Spans
 pub mod Layout

@@ -1,22 +1,19 @@
 -- The tables of a module, and rules 32 to 35. The symbol `lucet_tables` names a range of pairs of words, each
 -- the address of a table and its number of entries. An entry of a table is a pair of words too: a tag and a
 -- pointer to code.
-use Rattle.std.specs.Prelude.{ℕ, ◌+◌, ◌*◌, ◌/◌, ◌%◌, Bool, true, false, not, ◌&&◌, ◌||◌, ◌==◌, nat_le, nat_lt, List, [], ◌∷◌, map, Option, Some, None, option_map, option_and_then, unwrap_or, codes, slice_get}
+use Rattle.std.specs.Prelude.{ℕ, ◌+◌, ◌*◌, ◌/◌, ◌%◌, Bool, true, false, not, ◌&&◌, ◌||◌, ◌==◌, nat_le, nat_lt, List, [], ◌∷◌, map, Option, Some, None, option_map, option_and_then, unwrap_or, slice_get}
 use Rattle.std.specs.List.{find, list_any, flat_map}
 use Rattle.std.specs.Option.{option_map_or, option_or}
-use Rattle.std.specs.Str.{bytes_eq}
 use Rattle.vw_bits.specs.Headers.{table, is_readable, is_executable}
 use Rattle.vw_bits.specs.Places.{in_file_part, file_offset}
 use Rattle.vw_bits.specs.Rules.{unless}
 use Rattle.vw_bits.specs.declared.records.Segment.{Segment}
 use Rattle.vw_image.specs.Image.{Contents}
 use Rattle.vw_image.specs.Words.{word_at}
-use Rattle.vw_image.specs.Stubs.{stub_at}
 use Rattle.vw_image.specs.declared.word.Word.{Word}
 use Rattle.vw_image.specs.declared.word.Word.TheVariants.{Plain, Based, Bound, Mixed, Outside}
-use Rattle.vw_image.specs.declared.stub.StubTo.{StubTo}
-use Rattle.vw_image.specs.declared.stub.StubTo.TheVariants.{Import, Inside}
 use Rattle.vw_layout.specs.Functions.{symbol_offset}
+use Rattle.vw_layout.specs.Calls.{is_probe, is_ordinary, call_target}
 use Rattle.vw_layout.specs.declared.symbols.SymbolEntry.{SymbolEntry}
 use Rattle.vw_layout.specs.declared.functions.Function.{Function}
 use Rattle.vw_layout.specs.declared.tables.TableInfo.{TableInfo}
@@ -130,30 +127,9 @@ is_empty_tag number = number == 0xFFFF_FFFF_FFFF_FFFF
 abbrev pub is_tag : ℕ → Bool
 is_tag number = nat_lt number 0xFFFF_FFFF || is_empty_tag number
 
--- the name of the import that probes the stack
-abbrev pub probe_name : List ℕ
-probe_name = codes "lucet_probestack"
-
--- an import has this name
-abbrev pub is_probe : List (List ℕ) → ℕ → Bool
-is_probe imports number = option_map_or (bytes_eq probe_name) (slice_get imports number) false
-
--- a declared function begins at an address
-abbrev pub is_entry : List Function → ℕ → Bool
-is_entry functions address = list_any (λ f. f.entry == address) functions
-
--- A pointer may hold an address at which the bytes of a stub stand that jumps to this target. Where that is an
--- import, it is any but the probe, whatever else begins at the address. Where it is an address of the image, a
--- declared function begins at the target, since only then are the bytes a stub; or one begins at the address
--- itself, and the pointer goes to that function.
-abbrev pub is_target : List (List ℕ) → List Function → ℕ → StubTo → Bool
-is_target imports functions address (Import number) = not (is_probe imports number)
-is_target imports functions address (Inside target) = is_entry functions target || is_entry functions address
-
--- an address is that of a declared function or of a stub, and no stub of the probe stands there
+-- a declared function or a stub is at an address, and no stub of the probe
 abbrev pub is_callable : Contents → List Function → ℕ → Bool
-is_callable image functions address =
-    option_map_or (λ stub. is_target image.imports functions address stub.to) (stub_at image address) (is_entry functions address)
+is_callable image functions address = option_map_or is_ordinary (call_target image functions address) false
 
 -- the pointer of an entry that is not empty
 abbrev pub is_pointer : Contents → List Function → Word → Bool

@@ -1,23 +1,26 @@
-ghost use Rattle.std.specs.Prelude.{◌≡◌, ◌==◌, None, IfOk, IfErr, OnOk};
+ghost use Rattle.std.specs.Prelude.{◌≡◌, ◌==◌, length, None, IfOk, IfErr, IfSome, OnOk};
 ghost use Rattle.std.specs.List.{position};
 ghost use Rattle.std.specs.Str.{bytes_eq};
 ghost use Rattle.vw_bits.specs.Headers.{segments_of, dynamics_of};
 ghost use Rattle.vw_bits.specs.HeaderRules.{header_fault};
 ghost use Rattle.vw_elf.specs.SymbolSections.{symbol_sections};
 ghost use Rattle.vw_dynamic.specs.Dynamic.{dynamic_fault, file_relocations, file_imports};
+ghost use Rattle.vw_image.specs.Stubs.{IsBound};
 ghost use Rattle.vw_layout.specs.Faults.{Names};
+ghost use Rattle.vw_layout.specs.Calls.{call_target, module_stub, is_probe};
 ghost use Rattle.vw_layout.specs.Layout.{declared_functions, declared_tables, is_late, import_rule, layout_fault, module_fault, IsModuleOf, IsWhole};
 
+use crate::calls::{call_target, is_probe, module_stub, number_at};
 use crate::faults::refuse;
 use crate::functions::read_functions;
 use crate::symbols::{Role, read_symbols};
-use crate::tables::{position_of, read_tables};
-use crate::{Function, ModuleError, TableInfo};
+use crate::tables::read_tables;
+use crate::{CallTarget, Function, ModuleError, TableInfo};
 use std::alloc::Global;
 use vw_bits::{DynHeader, List, Segment};
 use vw_dynamic::{DynError, Dynamic, RelKind, Relocation};
 use vw_elf::{Elf, ElfError, SymbolSection};
-use vw_image::Image;
+use vw_image::{Image, Stub};
 
 /// A module: an ELF64 shared object for x86-64 of which all 36 rules hold.
 #[derive(Debug, Drop)]
@@ -57,10 +60,34 @@ impl Module {
         requires { IsWhole self.now }
         ensures { result ≡ position (λ f. f.entry == entry) self.now.functions }
     {
-        match position_of(self.functions.as_slice(), entry) {
-            Some(place) => Some(place as u32),
-            None => None,
-        }
+        number_at(self.functions.as_slice(), entry)
+    }
+
+    /// What a call of an address enters; `None` exactly where neither a declared function begins nor a stub of the
+    /// module stands there. Takes no memory.
+    pub fn call_target(&self, address: u64) -> Option<CallTarget>
+        requires { IsWhole self.now }
+        ensures { result ≡ call_target self.now.image self.now.functions address }
+    {
+        call_target(&self.image, self.functions.as_slice(), address)
+    }
+
+    /// The stub of the module at an address: one that goes to an import, or to an address at which a declared
+    /// function begins. `None` exactly where there is none. The number of an import is below the number of imports.
+    /// Takes no memory.
+    pub fn stub_at(&self, address: u64) -> Option<Stub>
+        requires { IsWhole self.now }
+        ensures stub { result ≡ module_stub self.now.image self.now.functions address }
+        ensures numbered { IfSome result (λ stub. IsBound (length self.now.image.imports) stub.to) }
+    {
+        module_stub(&self.image, self.functions.as_slice(), address)
+    }
+
+    /// Whether the import with this number is the one that probes the stack, `lucet_probestack`. Takes no memory.
+    pub fn is_probe(&self, number: u32) -> bool
+        ensures { result ≡ is_probe self.now.image.imports number }
+    {
+        is_probe(self.image.imports(), number)
     }
 
     /// The number of the function with a name, the one of the lowest address where several have it; `None`

@@ -4,6 +4,7 @@
 //! imports (27 to 36) are read here.
 #![tactic(auto)]
 
+mod calls;
 mod faults;
 mod fields;
 mod functions;
@@ -13,9 +14,13 @@ mod places;
 mod symbols;
 mod tables;
 
+pub use calls::CallTarget;
 pub use faults::ModuleError;
 pub use functions::Function;
-pub use laws::{functions_are_code, functions_ascend, imports_are_few};
+pub use laws::{
+    call_targets_stand, entries_are_words, entries_can_be_called, functions_are_code,
+    functions_ascend, import_names_differ, imports_are_few, tables_are_data, tables_are_few,
+};
 pub use layout::Module;
 pub use tables::{TableEntry, TableInfo};
 

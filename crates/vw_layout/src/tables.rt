@@ -1,23 +1,24 @@
-ghost use Rattle.std.specs.Prelude.{◌≡◌, ◌+◌, ◌*◌, ◌≤◌, ◌^◌, ◌&&◌, ◌==◌, true, not, map, option_map, None, IfOk, IfErr, OnOk};
-ghost use Rattle.std.specs.List.{find, list_any, flat_map, position};
+ghost use Rattle.std.specs.Prelude.{◌≡◌, ◌+◌, ◌*◌, ◌≤◌, ◌^◌, ◌&&◌, true, not, map, length, option_map, None, IfOk, IfErr, OnOk};
+ghost use Rattle.std.specs.List.{find, list_any, flat_map};
 ghost use Rattle.vw_bits.specs.Headers.{table, is_readable, is_executable};
 ghost use Rattle.vw_bits.specs.Places.{in_file_part};
 ghost use Rattle.vw_bits.specs.Rules.{lowest_broken, AllHold};
 ghost use Rattle.vw_dynamic.specs.Bounds.{AreBounded};
 ghost use Rattle.vw_layout.specs.Faults.{Names, Tells};
 ghost use Rattle.vw_layout.specs.Functions.{symbol_offset};
-ghost use Rattle.vw_layout.specs.Tables.{agrees, first_disagreeing, first_of, pairs_of, in_read_part, in_data_part, place_of, word, is_based, address_in, is_plain, number_in, is_length, is_pair, range_rule, is_empty_tag, is_tag, is_probe, is_entry, is_target, is_callable, is_pointer, is_table_entry, table_entry_at, table_rules, tables_of};
+ghost use Rattle.vw_layout.specs.Calls.{is_ordinary};
+ghost use Rattle.vw_layout.specs.Tables.{agrees, first_disagreeing, first_of, pairs_of, in_read_part, in_data_part, place_of, word, is_based, address_in, is_plain, number_in, is_length, is_pair, range_rule, is_empty_tag, is_tag, is_callable, is_pointer, is_table_entry, table_entry_at, table_rules, tables_of};
 ghost use Rattle.vw_layout.specs.Spans.{span_at, entries_in, table_in, IsLow, AreLow, Ascend};
 
+use crate::calls::{call_target, is_probe};
 use crate::faults::refuse;
 use crate::places::{file_offset, is_among};
 use crate::symbols::SymbolEntry;
-use crate::{Function, ModuleError};
+use crate::{CallTarget, Function, ModuleError};
 use bitflags::Flags;
 use std::alloc::Global;
 use vw_bits::{List, OutOfMemory, Rights, Segment};
-use vw_dynamic::Imports;
-use vw_image::{Image, StubTo, Word};
+use vw_image::{Image, Word};
 
 /// A table of code pointers of a module.
 #[derive(Debug, Drop)]
@@ -72,9 +73,6 @@ const EMPTY_TAG: u64 = 0xFFFF_FFFF_FFFF_FFFF;
 /// The tags of other entries are below this.
 const TAG_LIMIT: u64 = 0xFFFF_FFFF;
 
-/// The name of the import that probes the stack.
-const PROBE_NAME: &[u8] = b"lucet_probestack";
-
 // The tables of a module, or the first broken rule of 32 to 35.
 pub(crate) fn read_tables(
     alloc: Global,
@@ -84,6 +82,7 @@ pub(crate) fn read_tables(
 ) -> Result<List<TableInfo>, ModuleError>
     requires bounded { AreBounded (2 ^ 32) image.now.segments }
     requires ascend { Ascend functions.now }
+    requires few { length functions.now ≤ 65536 }
     ensures ok { IfOk result (λ tables. tables ≡ tables_of image.now symbols.now) }
     ensures rules { OnOk result (AllHold (table_rules image.now functions.now symbols.now)) }
     ensures fault { IfErr result (Names (lowest_broken 32 (table_rules image.now functions.now symbols.now))) }
@@ -298,6 +297,7 @@ fn first_wrong_table(image: &Image, spans: &[Span]) -> Option<u64>
 // Rule 35: the address of the first entry that is wrong, by table and then by entry.
 fn first_wrong_entry(image: &Image, functions: &[Function], spans: &[Span]) -> Option<u64>
     requires ascend { Ascend functions.now }
+    requires few { length functions.now ≤ 65536 }
     requires low { AreLow spans.now }
     ensures { result ≡ find (λ entry. not (is_table_entry image.now functions.now entry)) (flat_map entries_in spans.now) }
 {
@@ -311,6 +311,7 @@ fn first_wrong_entry(image: &Image, functions: &[Function], spans: &[Span]) -> O
 
 fn wrong_entry_of(image: &Image, functions: &[Function], span: &Span) -> Option<u64>
     requires ascend { Ascend functions.now }
+    requires few { length functions.now ≤ 65536 }
     requires low { IsLow span.now }
     ensures { result ≡ find (λ entry. not (is_table_entry image.now functions.now entry)) (entries_in span.now) }
 {
@@ -325,6 +326,7 @@ fn wrong_entry_of(image: &Image, functions: &[Function], span: &Span) -> Option<
 
 fn is_table_entry(image: &Image, functions: &[Function], entry: u64) -> bool
     requires ascend { Ascend functions.now }
+    requires few { length functions.now ≤ 65536 }
     requires below { entry ≤ 2 ^ 32 }
     ensures { result ≡ is_table_entry image.now functions.now entry }
 {
@@ -351,7 +353,8 @@ fn is_empty(word: Word) -> bool
 }
 
 fn is_pointer(image: &Image, functions: &[Function], pointer: Word) -> bool
-    requires { Ascend functions.now }
+    requires ascend { Ascend functions.now }
+    requires few { length functions.now ≤ 65536 }
     ensures { result ≡ is_pointer image.now functions.now pointer }
 {
     match pointer {
@@ -362,60 +365,23 @@ fn is_pointer(image: &Image, functions: &[Function], pointer: Word) -> bool
 }
 
 fn is_callable(image: &Image, functions: &[Function], address: u64) -> bool
-    requires { Ascend functions.now }
+    requires ascend { Ascend functions.now }
+    requires few { length functions.now ≤ 65536 }
     ensures { result ≡ is_callable image.now functions.now address }
 {
-    match image.stub_at(address) {
-        Some(stub) => is_target(image.imports(), functions, address, stub.to),
-        None => is_entry(functions, address),
+    match call_target(image, functions, address) {
+        Some(target) => is_ordinary(target),
+        None => false,
     }
 }
 
-fn is_target(imports: &Imports, functions: &[Function], address: u64, to: StubTo) -> bool
-    requires { Ascend functions.now }
-    ensures { result ≡ is_target imports.now functions.now address to }
+fn is_ordinary(target: CallTarget) -> bool
+    ensures { result ≡ is_ordinary target }
 {
-    match to {
-        StubTo::Import(number) => !is_probe(imports, number),
-        StubTo::Inside(target) => is_entry(functions, target) || is_entry(functions, address),
+    match target {
+        CallTarget::Function(_) | CallTarget::Stub(_) => true,
+        CallTarget::Probe => false,
     }
-}
-
-// Whether an import is the one that probes the stack.
-fn is_probe(imports: &Imports, number: u32) -> bool
-    ensures { result ≡ is_probe imports.now number }
-{
-    number < imports.len() && PROBE_NAME == imports.name(number)
-}
-
-// Whether a declared function begins at an address.
-fn is_entry(functions: &[Function], address: u64) -> bool
-    requires { Ascend functions.now }
-    ensures { result ≡ is_entry functions.now address }
-{
-    position_of(functions, address).is_some()
-}
-
-// The place of the function that begins at an address, by a search in halves.
-pub(crate) fn position_of(functions: &[Function], address: u64) -> Option<usize>
-    requires { Ascend functions.now }
-    ensures { result ≡ position (λ f. f.entry == address) functions.now }
-{
-    let mut low = 0;
-    let mut high = functions.len();
-    while low < high {
-        let middle = low + (high - low) / 2;
-        let entry = functions[middle].entry;
-        if entry == address {
-            return Some(middle);
-        }
-        if entry < address {
-            low = middle + 1;
-        } else {
-            high = middle;
-        }
-    }
-    None
 }
 
 // The tables with their entries.

@@ -1,8 +1,8 @@
-use crate::{Module, ModuleError};
+use crate::{CallTarget, Module, ModuleError};
 use std::alloc::{AllocError, Global};
 use std::test::Fail;
 use vw_bits::List;
-use vw_image::Word;
+use vw_image::{Stub, StubTo, Word};
 
 /// A number of so many bytes at an offset: (offset, bytes, number). Past eight bytes the highest repeats.
 type Patch = (usize, usize, u64);
@@ -420,6 +420,44 @@ const CASES: [Case; 67] = [
     (LEN, &[(1560, 4, 64), (776, 8, 2)], Some((23, 768))),
 ];
 
+/// A file whose third entry of the second table is empty, with patches, and what a call of its stub enters.
+type Call = (&'static [Patch], Option<CallTarget>);
+
+/// The slot of the stub is bound to x, based on g, based inside g, and bound to the probe; and so again where a
+/// function begins at the stub.
+const CALLS: [Call; 6] = [
+    (
+        &[],
+        Some(CallTarget::Stub(Stub {
+            slot: 0x14c0,
+            to: StubTo::Import(0),
+        })),
+    ),
+    (
+        &[(920, 8, 8), (928, 8, 0x120)],
+        Some(CallTarget::Stub(Stub {
+            slot: 0x14c0,
+            to: StubTo::Inside(0x120),
+        })),
+    ),
+    (&[(920, 8, 8), (928, 8, 0x121)], None),
+    (&[(920, 8, 0x2_0000_0006)], Some(CallTarget::Probe)),
+    (
+        &[(1636, 1, 2), (1638, 2, 1), (1640, 8, 0x140), (1648, 8, 6)],
+        Some(CallTarget::Function(2)),
+    ),
+    (
+        &[
+            (920, 8, 0x2_0000_0006),
+            (1636, 1, 2),
+            (1638, 2, 1),
+            (1640, 8, 0x140),
+            (1648, 8, 6),
+        ],
+        Some(CallTarget::Probe),
+    ),
+];
+
 fn zeros(alloc: Global, len: usize) -> Result<Vec<u8>, AllocError> {
     vec![in alloc; 0u8; len]
 }
@@ -594,6 +632,15 @@ fn reads_functions_and_tables(rt: HostRuntime) -> Result<(), Fail> {
     assert_eq!(rt; module.named(b"f"), Some(0));
     assert_eq!(rt; module.named(b"g"), Some(2));
     assert_eq!(rt; module.named(b"h"), None);
+    assert_eq!(rt; module.call_target(0x120), Some(CallTarget::Function(2)));
+    assert_eq!(rt; module.call_target(0x121), None);
+    let stub = Stub {
+        slot: 0x14c0,
+        to: StubTo::Import(0),
+    };
+    assert_eq!(rt; module.stub_at(0x140), Some(stub));
+    assert_eq!(rt; module.stub_at(0x141), None);
+    assert!(rt; !module.is_probe(0));
     let tables = module.tables.as_slice();
     assert_eq!(rt; tables.len(), 2);
     assert_eq!(rt; tables[1].address, 0x1480);
@@ -607,5 +654,18 @@ fn reads_functions_and_tables(rt: HostRuntime) -> Result<(), Fail> {
     let entries = tables[0].entries.as_slice();
     assert_eq!(rt; entries.len(), 2);
     assert_eq!(rt; entries[1].tag, 0xffff_ffff_ffff_ffff);
+    Ok(())
+}
+
+#[test]
+fn calls_enter(rt: HostRuntime) -> Result<(), Fail> {
+    for (patches, target) in CALLS.iter() {
+        let mut bytes = zeros(rt.alloc(), LEN)?;
+        patch(&mut bytes, &FILE);
+        patch(&mut bytes, &[(1184, 8, 0xffff_ffff_ffff_ffff)]);
+        patch(&mut bytes, *patches);
+        let module = Module::read(rt.alloc(), List::from_vec(bytes))?;
+        assert_eq!(rt; module.call_target(0x140), *target, "{patches:?}");
+    }
     Ok(())
 }

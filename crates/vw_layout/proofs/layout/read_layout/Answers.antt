@@ -1,4 +1,4 @@
-use Rattle.std.proofs.Common.{◌≡◌, ℕ, ◌^◌, List, Option, length, rules, sym, ap, subst, ◌∙◌}
+use Rattle.std.proofs.Common.{◌≡◌, ℕ, ◌≤◌, ◌^◌, List, Option, length, rules, sym, ap, subst, ◌∙◌}
 use Rattle.std.proofs.lemmas.Result.{err_from_is_err_and}
 use Rattle.vw_bits.specs.declared.records.Segment.{Segment}
 use Rattle.vw_bits.specs.Headers.{segments_of}
@@ -19,6 +19,7 @@ use Rattle.vw_layout.specs.declared.symbols.Role.TheVariants as role
 use Rattle.vw_layout.specs.declared.functions.Function.{Function}
 use Rattle.vw_layout.proofs.SectionLemmas.{AreInside-from_rules}
 use Rattle.vw_layout.proofs.ModuleLemmas.{segments_low, segments_are, relocations_are, functions_ascend, in_functions, in_tables, in_imports, none_broken, function_rules_same, functions_same, tables_symbols_same, table_rules_same, tables_same}
+use Rattle.vw_layout.proofs.ApartLemmas.{few_by_rules}
 use Rattle.vw_layout.proofs.layout.read_layout.Goals as goal
 
 inside_of : (bytes lent : List ℕ) (sections : List SymbolSection) → lent ≡ bytes → sections ≡ symbol_sections bytes → AreInside (length bytes) (symbol_sections bytes) → AreInside (length lent) sections
@@ -55,6 +56,13 @@ read_tables-requires-clause-ascend c =
     let bytes = c.bytes.result.now in
     let P : List Function → Type 0 = λ fs. Ascend fs in
     subst P (sym (c.as_slice.ensures ∙ c.in_ok-functions.ensures.ok)) (functions_ascend bytes (symbols_for bytes c.args.sections.now role.Function))
+
+pub read_tables-requires-clause-few : goal.read_tables-requires-clause-few
+read_tables-requires-clause-few c =
+    let bytes = c.bytes.result.now in
+    let P : List Function → Type 0 = λ fs. length fs ≤ 65536 in
+    let symbols = symbols_for bytes c.args.sections.now role.Function in
+    subst P (sym (c.as_slice.ensures ∙ c.in_ok-functions.ensures.ok)) (few_by_rules bytes c.segments.result.now symbols c.in_ok-functions.ensures.rules)
 
 pub returns-in_err-tables-clause-fault : goal.returns-in_err-tables-clause-fault
 returns-in_err-tables-clause-fault c =

@@ -1,6 +1,6 @@
 use Rattle.std.proofs.Common.{◌+◌, ◌-◌, ◌/◌, ◌<◌, length, sym, arith}
 use Rattle.vw_layout.proofs.SearchLemmas.{position_found, position_missed, lower_half, upper_half}
-use Rattle.vw_layout.proofs.tables.position_of.Goals as goal
+use Rattle.vw_layout.proofs.calls.position_of.Goals as goal
 
 pub returns-then-entry-address : goal.returns-then-entry-address
 returns-then-entry-address c =

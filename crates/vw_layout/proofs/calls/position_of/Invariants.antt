@@ -1,6 +1,6 @@
 use Rattle.std.proofs.Common.{ℕ, ◌<◌, ◌≤◌, ◌-◌, length, get_or}
 use Rattle.vw_layout.specs.declared.functions.Function.{Function}
-use Rattle.vw_layout.proofs.tables.position_of.Given as goal
+use Rattle.vw_layout.proofs.calls.position_of.Given as goal
 
 abbrev pub invariant-loop-low : goal.invariant-loop-low
 invariant-loop-low l = record {
