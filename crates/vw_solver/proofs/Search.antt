@@ -1,14 +1,15 @@
 -- Why the solver's table is the least solution, and what it costs.
-use Rattle.std.proofs.Common.{◌≡◌, ◌≢◌, ℕ, zero, suc, ◌+◌, ◌-◌, ◌*◌, ◌<◌, ◌≤◌, Bool, true, false, List, [], ◌∷◌, ◌++◌, length, get_or, set, replicate, Option, Some, None, refl, sym, ap, subst, ◌∙◌, arith, inl, inr, ◌⊎◌}
+use Rattle.std.proofs.Common.{◌≡◌, ◌≢◌, ℕ, zero, suc, ◌+◌, ◌-◌, ◌*◌, ◌<◌, ◌≤◌, Bool, true, false, List, [], ◌∷◌, ◌++◌, length, get_or, set, reverse, replicate, Option, Some, None, refl, sym, ap, subst, ◌∙◌, arith, inl, inr, ◌⊎◌}
 use Rattle.std.specs.Prelude.{◌||◌}
 use Rattle.std.specs.List.{All, Contains}
 use Rattle.std.specs.Ordering.{nat_cmp}
 use Rattle.std.specs.BTreeSet.{insert_key}
 use Rattle.std.proofs.Math.Nat.{mul-le-mul_left, mul-le-mul_right}
 use Rattle.std.proofs.lemmas.Bool.{cases_lt, cases_eq}
-use Rattle.std.proofs.lemmas.List.{get_or_append_left, get_or_push, length_push, get_or-set_same, get_or-set_other, get_or_past, length-set, append_assoc, append-nil, get_or-replicate, length-replicate}
+use Rattle.std.proofs.lemmas.List.{get_or_append_left, get_or_push, length_push, get_or-set_same, get_or-set_other, get_or_past, length-set, append_assoc, append-nil, get_or-replicate, length-replicate, get_or-reverse, length-reverse, reverse-reverse}
 use Rattle.std.proofs.lemmas.List.Elements.{All-contains, All-contains_itself, All-weaker}
-use Rattle.vw_solver.specs.Solution.{state_at, IsCovered, IsSolution, IsLower, IsLeast, IsReached, HoldsReachedPoints, IsPut, begin, follow, raise, RanksAtMost, weight_from, weight_of, weights_from}
+use Rattle.vw_solver.specs.Solution.{state_at, IsCovered, IsSolution, IsLower, IsLeast, IsReached, HoldsReachedPoints, weight_from, weight_of, weights_from}
+use Rattle.vw_solver.specs.Standing.{LandsOne, reaches, joins, IsTable, at_first, at_visit, at_landing, at_skip, RanksAtMost}
 use Rattle.vw_solver.specs.Landing.{AllValid, AllHaveStates, Lands, kept, raised, reached, LandsAll, none, more, Visits, stay, visit}
 use Rattle.vw_solver.specs.Visited.{Visited, VisitsFailed}
 use Rattle.vw_solver.specs.Tables.{table_sum, held_rank, is_empty, ranks, empties}
@@ -29,17 +30,33 @@ contains_cases {X} x y xs c = from c.0 c.1 c.2
 all_from_contains : {X : Type 0} (P : X → Type 0) (xs : List X) → ((x : X) → Contains xs x → P x) → All P xs
 all_from_contains {X} P xs each = let C : X → Type 0 = Contains xs in All-weaker C P each xs (All-contains_itself xs)
 
-all_front : {X : Type 0} (P : X → Type 0) (front : List X) (last : X) → All P (front ++ last ∷ []) → All P front
+pub all_front : {X : Type 0} (P : X → Type 0) (front : List X) (last : X) → All P (front ++ last ∷ []) → All P front
 all_front {X} P front last all = λ k d within.
     rw (get_or_append_left front (last ∷ []) d k within) at (all k d (omega (arith, length_push front last)))
 
-all_last : {X : Type 0} (P : X → Type 0) (front : List X) (last : X) → All P (front ++ last ∷ []) → P last
+pub all_last : {X : Type 0} (P : X → Type 0) (front : List X) (last : X) → All P (front ++ last ∷ []) → P last
 all_last {X} P front last all =
     rw (get_or_push front last last (length front) refl) at (all (length front) last (omega (arith, length_push front last)))
 
+-- what a list holds, its reverse holds, and the other way round
+contains_reverse : {X : Type 0} (xs : List X) (x : X) → Contains xs x → Contains (reverse xs) x
+contains_reverse {X} xs x c =
+    let size : length (reverse xs) ≡ length xs = length-reverse xs in
+    let inside : c.0 < length xs = c.1 in
+    let place : length xs - 1 - c.0 < length xs = omega arith in
+    let back : length xs - 1 - (length xs - 1 - c.0) ≡ c.0 = omega arith in
+    let read : get_or (reverse xs) (length xs - 1 - c.0) x ≡ get_or xs (length xs - 1 - (length xs - 1 - c.0)) x = get_or-reverse xs (length xs - 1 - c.0) x place in
+    let same : get_or xs (length xs - 1 - (length xs - 1 - c.0)) x ≡ get_or xs c.0 x = ap (λ (k : ℕ). get_or xs k x) back in
+    (length xs - 1 - c.0, omega (arith, size, place), read ∙ same ∙ c.2)
+
+contains_forward : {X : Type 0} (xs : List X) (x : X) → Contains (reverse xs) x → Contains xs x
+contains_forward {X} xs x c =
+    let P : List X → Type 0 = λ ys. Contains ys x in
+    subst P (reverse-reverse xs) (contains_reverse (reverse xs) x c)
+
 -- ---- tables
 
-same_state : {S : Type 0} (table : List (Option S)) (p : ℕ) (a b : S) → state_at table p ≡ Some a → state_at table p ≡ Some b → a ≡ b
+pub same_state : {S : Type 0} (table : List (Option S)) (p : ℕ) (a b : S) → state_at table p ≡ Some a → state_at table p ≡ Some b → a ≡ b
 same_state table p a b is_a is_b = cc
 
 pub state_within : {S : Type 0} (table : List (Option S)) (p : ℕ) (s : S) → state_at table p ≡ Some s → p < length table
@@ -52,7 +69,7 @@ found_or_not : {S : Type 0} (o : Option S) → ((s : S) × (o ≡ Some s)) ⊎ (
 found_or_not (Some s) = inl (s, refl)
 found_or_not None = inr refl
 
-table_sum_set : {S : Type 0} (f : ℕ → Option S → ℕ) (p q m : ℕ) (table : List (Option S)) (o : Option S) → m ≡ p + q → q < length table → table_sum f p (set table q o) + f m (state_at table q) ≡ table_sum f p table + f m o
+pub table_sum_set : {S : Type 0} (f : ℕ → Option S → ℕ) (p q m : ℕ) (table : List (Option S)) (o : Option S) → m ≡ p + q → q < length table → table_sum f p (set table q o) + f m (state_at table q) ≡ table_sum f p table + f m o
 table_sum_set f p q m [] o place within = absurd (omega arith)
 table_sum_set f p zero m (x ∷ xs) o place within =
     let at : m ≡ p = omega arith in
@@ -100,10 +117,10 @@ record Raises {S : Type 0} (below : S → S → Type 0) (is_valid : S → Type 0
   valid : is_valid join
   above : (a : S) → state_at table q ≡ Some a → below a join
 
-at_same : {S : Type 0} (table : List (Option S)) (q : ℕ) (join : S) → q < length table → state_at (set table q (Some join)) q ≡ Some join
+pub at_same : {S : Type 0} (table : List (Option S)) (q : ℕ) (join : S) → q < length table → state_at (set table q (Some join)) q ≡ Some join
 at_same {S} table q join within = get_or-set_same table q (Some join) None within
 
-at_other : {S : Type 0} (table : List (Option S)) (q p : ℕ) (join : S) → p ≢ q → state_at (set table q (Some join)) p ≡ state_at table p
+pub at_other : {S : Type 0} (table : List (Option S)) (q p : ℕ) (join : S) → p ≢ q → state_at (set table q (Some join)) p ≡ state_at table p
 at_other {S} table q p join other = get_or-set_other table q p (Some join) None other
 
 covered_still : {S : Type 0} (below : S → S → Type 0) (is_valid : S → Type 0) (rank : S → ℕ) (edges : ℕ → S → List (ℕ × S)) (points : ℕ) → Laws below is_valid rank edges points → (table : List (Option S)) (q : ℕ) (join : S) → AllValid is_valid table → Raises below is_valid table q join → (p : ℕ) (x : S) → is_valid x → IsCovered below table p x → IsCovered below (set table q (Some join)) p x
@@ -145,7 +162,6 @@ reached_still {S} below is_valid rank edges points laws table q join inside vali
 pub record Pending {S : Type 0} (below : S → S → Type 0) (is_valid : S → Type 0) (edges : ℕ → S → List (ℕ × S)) (points start : ℕ) (first : S) (table : List (Option S)) (edge : ℕ × S) : Type 0 where
   pub valid : is_valid edge.1
   pub inside : edge.0 < points
-  pub put : IsPut below is_valid edges start first edge.0 edge.1
   pub by_edge : IsReached edges table edge.0
   pub bound : (other : List (Option S)) → IsSolution below is_valid edges points start first other → IsCovered below other edge.0 edge.1
 
@@ -158,12 +174,12 @@ pub record Progress {S : Type 0} (below : S → S → Type 0) (is_valid : S → 
   pub there : (p : ℕ) → Waits waiting p → (s : S) × (state_at table p ≡ Some s)
   pub least : (other : List (Option S)) → IsSolution below is_valid edges points start first other → IsLower below table other
   pub tight : (p : ℕ) (s : S) → state_at table p ≡ Some s → (p ≡ start) ⊎ IsReached edges table p
-  pub puts : (p : ℕ) (s : S) → state_at table p ≡ Some s → IsPut below is_valid edges start first p s
+  pub stands : IsTable below is_valid edges points start first table pending
   pub pends : (e : ℕ × S) → Contains pending e → Pending below is_valid edges points start first table e
-  pub paid : (r : ℕ) → RanksAtMost below is_valid edges start first rank r → ticks + total weight waiting ≤ table_sum (cost weight rank r) 0 table
+  pub paid : (r : ℕ) → RanksAtMost below is_valid edges points start first rank r → ticks + total weight waiting ≤ table_sum (cost weight rank r) 0 table
 
 module _ {S : Type 0} (below : S → S → Type 0) (is_valid : S → Type 0) (rank : S → ℕ) (edges : ℕ → S → List (ℕ × S)) (weight : ℕ → ℕ) (points start : ℕ) (first : S) (laws : Laws below is_valid rank edges points) where
-  raise_step : (table : List (Option S)) (waiting : List ℕ) (edge : ℕ × S) (rest : List (ℕ × S)) (ticks : ℕ) (join : S) → Progress below is_valid rank edges weight points start first table waiting (edge ∷ rest) ticks → Raises below is_valid table edge.0 join → below edge.1 join → ((other : List (Option S)) → IsSolution below is_valid edges points start first other → IsCovered below other edge.0 join) → (edge.0 ≡ start) ⊎ IsReached edges table edge.0 → IsPut below is_valid edges start first edge.0 join → ((r : ℕ) → RanksAtMost below is_valid edges start first rank r → weight edge.0 + cost weight rank r edge.0 (state_at table edge.0) ≤ weight edge.0 * (r + 1 - rank join)) → Progress below is_valid rank edges weight points start first (set table edge.0 (Some join)) (insert_key nat_cmp waiting edge.0) rest ticks
+  raise_step : (table : List (Option S)) (waiting : List ℕ) (edge : ℕ × S) (rest : List (ℕ × S)) (ticks : ℕ) (join : S) → Progress below is_valid rank edges weight points start first table waiting (edge ∷ rest) ticks → Raises below is_valid table edge.0 join → below edge.1 join → ((other : List (Option S)) → IsSolution below is_valid edges points start first other → IsCovered below other edge.0 join) → (edge.0 ≡ start) ⊎ IsReached edges table edge.0 → LandsOne below is_valid table edge (set table edge.0 (Some join)) → ((r : ℕ) → RanksAtMost below is_valid edges points start first rank r → weight edge.0 + cost weight rank r edge.0 (state_at table edge.0) ≤ weight edge.0 * (r + 1 - rank join)) → Progress below is_valid rank edges weight points start first (set table edge.0 (Some join)) (insert_key nat_cmp waiting edge.0) rest ticks
   raise_step table waiting edge rest ticks join run up under bound by put pay =
       let q = edge.0 in
       let now = set table q (Some join) in
@@ -225,19 +241,12 @@ module _ {S : Type 0} (below : S → S → Type 0) (is_valid : S → Type 0) (ra
             | inr from ↦ inr (reached_still below is_valid rank edges points laws table q join inside run.valid up p from)
           ]
         ];
-        puts = λ p s is. elim (cases_eq p q) [
-          | inl same ↦
-              let C : S → Type 0 = λ x. IsPut below is_valid edges start first p x in
-              let D : ℕ → Type 0 = λ n. IsPut below is_valid edges start first n join in
-              subst C (is_join p s same is) (subst D (sym same) put)
-          | inr other ↦ run.puts p s (old p s other is)
-        ];
+        stands = at_landing table now edge rest run.stands put;
         pends = λ e has.
             let before = run.pends e (pends_later edge e rest has) in
             record {
               valid = before.valid;
               inside = before.inside;
-              put = before.put;
               bound = before.bound;
               by_edge = reached_still below is_valid rank edges points laws table q join inside run.valid up e.0 before.by_edge;
             };
@@ -271,7 +280,7 @@ module _ {S : Type 0} (below : S → S → Type 0) (is_valid : S → Type 0) (ra
     there = run.there;
     least = run.least;
     tight = run.tight;
-    puts = run.puts;
+    stands = at_skip table edge rest run.stands;
     pends = λ e has. run.pends e (suc has.0, omega (arith, has.1), has.2);
     paid = run.paid;
   }
@@ -294,9 +303,9 @@ module _ {S : Type 0} (below : S → S → Type 0) (is_valid : S → Type 0) (ra
       let under = subst (λ (x : S). below there x) one mine.is_below in
       record { cover = theirs.cover; there = theirs.there; is_below = least.least theirs.cover valid_cover under theirs.is_below })
       (run.tight edge.0 there is)
-      (raise edge.0 there edge.1 join (run.puts edge.0 there is) pending.put least)
+      (joins there join is least)
       (λ r most.
-      let at_most : rank there ≤ r = most edge.0 there (run.puts edge.0 there is) in
+      let at_most : rank there ≤ r = most edge.0 there (record { table = table; pending = edge ∷ rest; is_table = run.stands; there = is }) in
       let step : (r + 1 - rank there) + 1 ≤ r + 1 - rank join = omega arith in
       let was : cost weight rank r edge.0 (state_at table edge.0) ≡ weight edge.0 * (r + 1 - rank there) = ap (λ (o : Option S). cost weight rank r edge.0 o) is in
       omega (arith, mul-le-mul_left (weight edge.0) step, was))
@@ -307,9 +316,9 @@ module _ {S : Type 0} (below : S → S → Type 0) (is_valid : S → Type 0) (ra
       (laws.reflexive edge.1 pending.valid)
       pending.bound
       (inr pending.by_edge)
-      pending.put
+      (reaches within nothing)
       (λ r most.
-      let at_most : rank edge.1 ≤ r = most edge.0 edge.1 pending.put in
+      let at_most : rank edge.1 ≤ r = most edge.0 edge.1 (record { table = set table edge.0 (Some edge.1); pending = rest; is_table = at_landing table (set table edge.0 (Some edge.1)) edge rest run.stands (reaches within nothing); there = at_same table edge.0 edge.1 within }) in
       let step : 1 ≤ r + 1 - rank edge.1 = omega arith in
       let was : cost weight rank r edge.0 (state_at table edge.0) ≡ 0 = ap (λ (o : Option S). cost weight rank r edge.0 o) nothing in
       omega (arith, mul-le-mul_left (weight edge.0) step, was))
@@ -323,7 +332,7 @@ module _ {S : Type 0} (below : S → S → Type 0) (is_valid : S → Type 0) (ra
       land_step middle waits edge rest ticks new now met' (land_all_step table waiting list' (edge ∷ rest) ticks middle waits before run' chain) last
 
   -- a point stops waiting, and its edges are to land
-  visit_step : (table : List (Option S)) (point : ℕ) (rest : List ℕ) (ticks : ℕ) (state : S) → Progress below is_valid rank edges weight points start first table (point ∷ rest) [] ticks → state_at table point ≡ Some state → All (λ edge. edge.0 < points) (edges point state) → Progress below is_valid rank edges weight points start first table rest (edges point state) (ticks + weight point)
+  visit_step : (table : List (Option S)) (point : ℕ) (rest : List ℕ) (ticks : ℕ) (state : S) → Progress below is_valid rank edges weight points start first table (point ∷ rest) [] ticks → state_at table point ≡ Some state → All (λ edge. edge.0 < points) (edges point state) → Progress below is_valid rank edges weight points start first table rest (reverse (edges point state)) (ticks + weight point)
   visit_step table point rest ticks state run is targets =
       let point_in : point < points = omega (arith, run.size, state_within table point state is) in
       let valid_state = run.valid point state is in
@@ -337,7 +346,7 @@ module _ {S : Type 0} (below : S → S → Type 0) (is_valid : S → Type 0) (ra
             | inl same ↦
                 let at_point : state_at table point ≡ Some s = subst (λ (n : ℕ). state_at table n ≡ Some s) (sym same) at in
                 let one : s ≡ state = same_state table point s state at_point is in
-                inr (λ e has. inr (moved p s e same one has))
+                inr (λ e has. inr (contains_reverse (edges point state) e (moved p s e same one has)))
             | inr later ↦ inl later
           ]
           | inr each ↦ inr (λ e has. elim (each e has) [
@@ -348,14 +357,14 @@ module _ {S : Type 0} (below : S → S → Type 0) (is_valid : S → Type 0) (ra
         there = λ p waits. run.there p (inr waits);
         least = run.least;
         tight = run.tight;
-        puts = run.puts;
-        pends = λ e has.
+        stands = at_visit table [] (reverse (edges point state)) point state run.stands is (λ e c. contains_forward (edges point state) e c);
+        pends = λ e pends.
+            let has = contains_forward (edges point state) e pends in
             let V : ℕ × S → Type 0 = λ x. is_valid x.1 in
             let T : ℕ × S → Type 0 = λ x. x.0 < points in
             record {
               valid = All-contains V (edges point state) e (laws.valid_edges point state point_in valid_state) has;
               inside = All-contains T (edges point state) e targets has;
-              put = follow point e.0 state e.1 (run.puts point state is) has;
               by_edge = record { from = point; state = state; there = is; carried = e.1; edge = has };
               bound = λ other solution.
                   let covered = run.least other solution point state is in
@@ -389,8 +398,9 @@ module _ {S : Type 0} (below : S → S → Type 0) (is_valid : S → Type 0) (ra
       let run' = visits_step table waiting ticks before middle (point ∷ rest) run visits in
       let visited = visit_step middle point rest (ticks + before) state run' is targets in
       let P : List (ℕ × S) → Type 0 = λ es. Progress below is_valid rank edges weight points start first middle rest es ((ticks + before) + weight point) in
-      let whole : edges point state ≡ edges point state ++ [] = sym (append-nil (edges point state)) in
-      let landed = land_all_step middle rest (edges point state) [] ((ticks + before) + weight point) new now met (subst P whole visited) lands in
+      let last = reverse (edges point state) in
+      let whole : last ≡ last ++ [] = sym (append-nil last) in
+      let landed = land_all_step middle rest last [] ((ticks + before) + weight point) new now met (subst P whole visited) lands in
       let Q : ℕ → Type 0 = λ n. Progress below is_valid rank edges weight points start first new now [] n in
       let sums : (ticks + before) + weight point ≡ ticks + (before + weight point) = omega arith in
       subst Q sums landed
@@ -423,14 +433,11 @@ module _ {S : Type 0} (below : S → S → Type 0) (is_valid : S → Type 0) (ra
             let D : S → Type 0 = λ x. IsCovered below other p x in
             subst D (alone p s is).1 (subst C (sym (alone p s is).0) solution.begins);
         tight = λ p s is. inl (alone p s is).0;
-        puts = λ p s is.
-            let C : ℕ → Type 0 = λ n. IsPut below is_valid edges start first n first in
-            let D : S → Type 0 = λ x. IsPut below is_valid edges start first p x in
-            subst D (alone p s is).1 (subst C (sym (alone p s is).0) begin);
+        stands = at_first start_in;
         pends = λ e has. let inside : has.0 < 0 = has.1 in absurd (omega arith);
         paid = λ r most.
             let place : start ≡ 0 + start = omega arith in
-            let at_most : rank first ≤ r = most start first begin in
+            let at_most : rank first ≤ r = most start first (record { table = made; pending = []; is_table = at_first start_in; there = here }) in
             let step : 1 ≤ r + 1 - rank first = omega arith in
             let nothing : state_at empty start ≡ None = empty_at points start in
             let was : cost weight rank r start (state_at empty start) ≡ 0 = ap (λ (o : Option S). cost weight rank r start o) nothing in
@@ -481,17 +488,17 @@ module _ {S : Type 0} (below : S → S → Type 0) (is_valid : S → Type 0) (ra
         );
       }
 
-  pub finish_ticks : (table : List (Option S)) (ticks : ℕ) → Progress below is_valid rank edges weight points start first table [] [] ticks → (r : ℕ) → RanksAtMost below is_valid edges start first rank r → ticks ≤ weight_of weight table * (r + 1)
+  pub finish_ticks : (table : List (Option S)) (ticks : ℕ) → Progress below is_valid rank edges weight points start first table [] [] ticks → (r : ℕ) → RanksAtMost below is_valid edges points start first rank r → ticks ≤ weight_of weight table * (r + 1)
   finish_ticks table ticks run r most = omega (arith, run.paid r most, cost_at_most weight rank r 0 table)
 
   -- the steps so far, and those of the points that wait, are within the weights of all points
-  pub within_bound : (table : List (Option S)) (waiting : List ℕ) (ticks : ℕ) → Progress below is_valid rank edges weight points start first table waiting [] ticks → (r : ℕ) → RanksAtMost below is_valid edges start first rank r → ticks + total weight waiting ≤ weights_from weight 0 points * (r + 1)
+  pub within_bound : (table : List (Option S)) (waiting : List ℕ) (ticks : ℕ) → Progress below is_valid rank edges weight points start first table waiting [] ticks → (r : ℕ) → RanksAtMost below is_valid edges points start first rank r → ticks + total weight waiting ≤ weights_from weight 0 points * (r + 1)
   within_bound table waiting ticks run r most =
       let B : ℕ → Type 0 = λ n. weight_from weight 0 table ≤ weights_from weight 0 n in
       let all = subst B run.size (weight_within weight 0 table) in
       omega (arith, run.paid r most, cost_at_most weight rank r 0 table, mul-le-mul_right (r + 1) all)
 
-  pub failed_bound : (table : List (Option S)) (waiting : List ℕ) (ticks extra : ℕ) → Progress below is_valid rank edges weight points start first table waiting [] ticks → VisitsFailed below is_valid edges weight points table waiting extra → (r : ℕ) → RanksAtMost below is_valid edges start first rank r → ticks + extra ≤ weights_from weight 0 points * (r + 1)
+  pub failed_bound : (table : List (Option S)) (waiting : List ℕ) (ticks extra : ℕ) → Progress below is_valid rank edges weight points start first table waiting [] ticks → VisitsFailed below is_valid edges weight points table waiting extra → (r : ℕ) → RanksAtMost below is_valid edges points start first rank r → ticks + extra ≤ weights_from weight 0 points * (r + 1)
   failed_bound table waiting ticks extra run failed r most =
       let before = visits_step table waiting ticks failed.ticks failed.middle (failed.point ∷ failed.rest) run failed.visits in
       omega (arith, within_bound failed.middle (failed.point ∷ failed.rest) (ticks + failed.ticks) before r most, failed.counted)
@@ -623,8 +630,11 @@ settles_more {S} below is_valid rank edges weight points laws began waited table
     let G : ℕ → Type 0 = λ p. (s : S) × (state_at table p ≡ Some s) in
     let waits_rest : AllHaveStates table rest = all_from_waits G rest (λ p waits. waits_from_all G (point ∷ rest) p run.waits (inr waits)) in
     let inside : point < points = omega (arith, run.size, state_within table point visited.state visited.there) in
-    let valid_edges = laws.valid_edges point visited.state inside (run.valid point visited.state visited.there) in
-    let all = landed below is_valid rank laws.falls laws.strict table rest (edges point visited.state) new now met visited.lands valid_edges run.valid waits_rest in
+    let V : ℕ × S → Type 0 = λ e. is_valid e.1 in
+    let list = edges point visited.state in
+    let valid_list = laws.valid_edges point visited.state inside (run.valid point visited.state visited.there) in
+    let valid_edges = all_from_contains V (reverse list) (λ e c. All-contains V list e valid_list (contains_forward list e c)) in
+    let all = landed below is_valid rank laws.falls laws.strict table rest (reverse list) new now met visited.lands valid_edges run.valid waits_rest in
     record {
       run = record {
         size = all.size ∙ run.size;

@@ -1,7 +1,6 @@
-use Rattle.std.proofs.Common.{◌≡◌, ◌+◌, ◌-◌, ◌*◌, ◌≤◌, ℕ, [], ◌∷◌, List, Option, Some, None, set, replicate, ap, sym, subst, ◌∙◌, arith}
+use Rattle.std.proofs.Common.{◌≡◌, ◌+◌, ◌-◌, ℕ, [], ◌∷◌, List, Option, Some, None, set, replicate, ap, sym, subst, ◌∙◌, arith}
 use Rattle.std.specs.Ordering.{nat_cmp}
 use Rattle.std.specs.BTreeSet.{insert_key}
-use Rattle.vw_solver.specs.Solution.{IsLeast, HoldsReachedPoints, weight_of}
 use Rattle.vw_solver.proofs.Search.{Laws, Progress, first_progress, visits_step, finish, finish_reached, finish_ticks, within_bound, failed_bound, all_wait}
 use Rattle.vw_solver.proofs.solution.solve.Given.{Over}
 use Rattle.vw_solver.proofs.solution.solve.Goals as goal
@@ -18,10 +17,10 @@ laws_of g e = record {
 
 pub rounds-init : goal.rounds-init
 rounds-init g c =
-    let table : List (Option g.row.E-State.Denot) = set c.in_ok-states.states.items c.args.start (Some c.args.first) in
+    let table = c.put.new.self in
     let put : List (Option g.row.E-State.Denot) → List (Option g.row.E-State.Denot) = λ t. set t c.args.start (Some c.args.first) in
     let empty : ℕ → List (Option g.row.E-State.Denot) = λ n. set (replicate n None) c.args.start (Some c.args.first) in
-    let table_is : table ≡ set (replicate (g.E.Equations.points c.args.equations.now) None) c.args.start (Some c.args.first) = ap put c.in_ok-states.ensures ∙ ap empty c.points.ensures in
+    let table_is : table ≡ set (replicate (g.E.Equations.points c.args.equations.now) None) c.args.start (Some c.args.first) = c.in_ok-put.ensures ∙ ap put c.in_ok-states.ensures ∙ ap empty c.points.ensures in
     let insert : List ℕ → List ℕ = λ ks. insert_key nat_cmp ks c.args.start in
     let keys_are : c.insert.new.self.keys ≡ c.args.start ∷ [] = c.in_ok-insert.ensures.keys ∙ ap insert c.new-waiting.ensures.empty in
     let P : List ℕ → Type 0 = λ ks. Progress g.E.State.Lattice.below (g.E.State.Lattice.valid (g.E.Equations.bounds c.args.equations.now)) (g.E.State.Lattice.rank (g.E.Equations.bounds c.args.equations.now)) (g.E.Equations.edges c.args.equations.now) (g.E.Equations.weight c.args.equations.now) (g.E.Equations.points c.args.equations.now) c.args.start c.args.first table ks [] (c.args.steps.now - c.args.steps.now) in
@@ -33,13 +32,13 @@ rounds-init g c =
     }
 
 pub settle-requires-clause-waiting : goal.settle-requires-clause-waiting
-settle-requires-clause-waiting g c = all_wait g.E.State.Lattice.below (g.E.State.Lattice.valid (g.E.Equations.bounds c.args.equations.now)) (g.E.State.Lattice.rank (g.E.Equations.bounds c.args.equations.now)) (g.E.Equations.edges c.args.equations.now) (g.E.Equations.weight c.args.equations.now) (g.E.Equations.points c.args.equations.now) c.args.start c.args.first c.rounds.states.items c.rounds.waiting.keys (c.rounds.steps - c.args.steps.now) c.rounds.invariant.run
+settle-requires-clause-waiting g c = all_wait g.E.State.Lattice.below (g.E.State.Lattice.valid (g.E.Equations.bounds c.args.equations.now)) (g.E.State.Lattice.rank (g.E.Equations.bounds c.args.equations.now)) (g.E.Equations.edges c.args.equations.now) (g.E.Equations.weight c.args.equations.now) (g.E.Equations.points c.args.equations.now) c.args.start c.args.first c.rounds.states c.rounds.waiting.keys (c.rounds.steps - c.args.steps.now) c.rounds.invariant.run
 
 pub rounds-preserved : goal.rounds-preserved
 rounds-preserved g c =
-    let run = visits_step g.E.State.Lattice.below (g.E.State.Lattice.valid (g.E.Equations.bounds c.args.equations.now)) (g.E.State.Lattice.rank (g.E.Equations.bounds c.args.equations.now)) (g.E.Equations.edges c.args.equations.now) (g.E.Equations.weight c.args.equations.now) (g.E.Equations.points c.args.equations.now) c.args.start c.args.first (laws_of g c.args.equations.now) c.rounds.states.items c.rounds.waiting.keys (c.rounds.steps - c.args.steps.now) (c.settle.new.steps - c.rounds.steps) c.settle.new.states.items c.settle.new.waiting.keys c.rounds.invariant.run c.in_ok-met.ensures.visits in
+    let run = visits_step g.E.State.Lattice.below (g.E.State.Lattice.valid (g.E.Equations.bounds c.args.equations.now)) (g.E.State.Lattice.rank (g.E.Equations.bounds c.args.equations.now)) (g.E.Equations.edges c.args.equations.now) (g.E.Equations.weight c.args.equations.now) (g.E.Equations.points c.args.equations.now) c.args.start c.args.first (laws_of g c.args.equations.now) c.rounds.states c.rounds.waiting.keys (c.rounds.steps - c.args.steps.now) (c.settle.new.steps - c.rounds.steps) c.settle.new.states c.settle.new.waiting.keys c.rounds.invariant.run c.in_ok-met.ensures.visits in
     let sums : (c.rounds.steps - c.args.steps.now) + (c.settle.new.steps - c.rounds.steps) ≡ c.settle.new.steps - c.args.steps.now = omega (arith, c.rounds.invariant.counts, c.in_ok-met.ensures.counts) in
-    let N : ℕ → Type 0 = λ n. Progress g.E.State.Lattice.below (g.E.State.Lattice.valid (g.E.Equations.bounds c.args.equations.now)) (g.E.State.Lattice.rank (g.E.Equations.bounds c.args.equations.now)) (g.E.Equations.edges c.args.equations.now) (g.E.Equations.weight c.args.equations.now) (g.E.Equations.points c.args.equations.now) c.args.start c.args.first c.settle.new.states.items c.settle.new.waiting.keys [] n in
+    let N : ℕ → Type 0 = λ n. Progress g.E.State.Lattice.below (g.E.State.Lattice.valid (g.E.Equations.bounds c.args.equations.now)) (g.E.State.Lattice.rank (g.E.Equations.bounds c.args.equations.now)) (g.E.Equations.edges c.args.equations.now) (g.E.Equations.weight c.args.equations.now) (g.E.Equations.points c.args.equations.now) c.args.start c.args.first c.settle.new.states c.settle.new.waiting.keys [] n in
     record { counts = omega (arith, c.rounds.invariant.counts, c.in_ok-met.ensures.counts); run = subst N sums run }
 
 pub rounds-smaller : goal.rounds-smaller
@@ -47,42 +46,45 @@ rounds-smaller g c = c.in_ok-met.ensures.fewer c.if-not-met.false
 
 pub returns-clause-least : goal.returns-clause-least
 returns-clause-least g c =
-    let run = visits_step g.E.State.Lattice.below (g.E.State.Lattice.valid (g.E.Equations.bounds c.args.equations.now)) (g.E.State.Lattice.rank (g.E.Equations.bounds c.args.equations.now)) (g.E.Equations.edges c.args.equations.now) (g.E.Equations.weight c.args.equations.now) (g.E.Equations.points c.args.equations.now) c.args.start c.args.first (laws_of g c.args.equations.now) c.rounds.states.items c.rounds.waiting.keys (c.rounds.steps - c.args.steps.now) (c.settle.new.steps - c.rounds.steps) c.settle.new.states.items c.settle.new.waiting.keys c.rounds.invariant.run c.in_ok-met.ensures.visits in
+    let run = visits_step g.E.State.Lattice.below (g.E.State.Lattice.valid (g.E.Equations.bounds c.args.equations.now)) (g.E.State.Lattice.rank (g.E.Equations.bounds c.args.equations.now)) (g.E.Equations.edges c.args.equations.now) (g.E.Equations.weight c.args.equations.now) (g.E.Equations.points c.args.equations.now) c.args.start c.args.first (laws_of g c.args.equations.now) c.rounds.states c.rounds.waiting.keys (c.rounds.steps - c.args.steps.now) (c.settle.new.steps - c.rounds.steps) c.settle.new.states c.settle.new.waiting.keys c.rounds.invariant.run c.in_ok-met.ensures.visits in
     let sums : (c.rounds.steps - c.args.steps.now) + (c.settle.new.steps - c.rounds.steps) ≡ c.settle.new.steps - c.args.steps.now = omega (arith, c.rounds.invariant.counts, c.in_ok-met.ensures.counts) in
-    let W : List ℕ → Type 0 = λ ks. Progress g.E.State.Lattice.below (g.E.State.Lattice.valid (g.E.Equations.bounds c.args.equations.now)) (g.E.State.Lattice.rank (g.E.Equations.bounds c.args.equations.now)) (g.E.Equations.edges c.args.equations.now) (g.E.Equations.weight c.args.equations.now) (g.E.Equations.points c.args.equations.now) c.args.start c.args.first c.settle.new.states.items ks [] ((c.rounds.steps - c.args.steps.now) + (c.settle.new.steps - c.rounds.steps)) in
+    let W : List ℕ → Type 0 = λ ks. Progress g.E.State.Lattice.below (g.E.State.Lattice.valid (g.E.Equations.bounds c.args.equations.now)) (g.E.State.Lattice.rank (g.E.Equations.bounds c.args.equations.now)) (g.E.Equations.edges c.args.equations.now) (g.E.Equations.weight c.args.equations.now) (g.E.Equations.points c.args.equations.now) c.args.start c.args.first c.settle.new.states ks [] ((c.rounds.steps - c.args.steps.now) + (c.settle.new.steps - c.rounds.steps)) in
     let done = subst W (c.in_ok-met.ensures.settled c.if-not-met.true) run in
-    let T : List (Option g.row.E-State.Denot) → Type 0 = λ t. IsLeast g.E.State.Lattice.below (g.E.State.Lattice.valid (g.E.Equations.bounds c.args.equations.now)) (g.E.Equations.edges c.args.equations.now) (g.E.Equations.points c.args.equations.now) c.args.start c.args.first t in
-    subst T (sym c.from_states.ensures) (finish g.E.State.Lattice.below (g.E.State.Lattice.valid (g.E.Equations.bounds c.args.equations.now)) (g.E.State.Lattice.rank (g.E.Equations.bounds c.args.equations.now)) (g.E.Equations.edges c.args.equations.now) (g.E.Equations.weight c.args.equations.now) (g.E.Equations.points c.args.equations.now) c.args.start c.args.first (laws_of g c.args.equations.now) c.settle.new.states.items ((c.rounds.steps - c.args.steps.now) + (c.settle.new.steps - c.rounds.steps)) done)
+    (finish g.E.State.Lattice.below (g.E.State.Lattice.valid (g.E.Equations.bounds c.args.equations.now)) (g.E.State.Lattice.rank (g.E.Equations.bounds c.args.equations.now)) (g.E.Equations.edges c.args.equations.now) (g.E.Equations.weight c.args.equations.now) (g.E.Equations.points c.args.equations.now) c.args.start c.args.first (laws_of g c.args.equations.now) c.settle.new.states ((c.rounds.steps - c.args.steps.now) + (c.settle.new.steps - c.rounds.steps)) done)
 
 pub returns-clause-reached : goal.returns-clause-reached
 returns-clause-reached g c =
-    let run = visits_step g.E.State.Lattice.below (g.E.State.Lattice.valid (g.E.Equations.bounds c.args.equations.now)) (g.E.State.Lattice.rank (g.E.Equations.bounds c.args.equations.now)) (g.E.Equations.edges c.args.equations.now) (g.E.Equations.weight c.args.equations.now) (g.E.Equations.points c.args.equations.now) c.args.start c.args.first (laws_of g c.args.equations.now) c.rounds.states.items c.rounds.waiting.keys (c.rounds.steps - c.args.steps.now) (c.settle.new.steps - c.rounds.steps) c.settle.new.states.items c.settle.new.waiting.keys c.rounds.invariant.run c.in_ok-met.ensures.visits in
+    let run = visits_step g.E.State.Lattice.below (g.E.State.Lattice.valid (g.E.Equations.bounds c.args.equations.now)) (g.E.State.Lattice.rank (g.E.Equations.bounds c.args.equations.now)) (g.E.Equations.edges c.args.equations.now) (g.E.Equations.weight c.args.equations.now) (g.E.Equations.points c.args.equations.now) c.args.start c.args.first (laws_of g c.args.equations.now) c.rounds.states c.rounds.waiting.keys (c.rounds.steps - c.args.steps.now) (c.settle.new.steps - c.rounds.steps) c.settle.new.states c.settle.new.waiting.keys c.rounds.invariant.run c.in_ok-met.ensures.visits in
     let sums : (c.rounds.steps - c.args.steps.now) + (c.settle.new.steps - c.rounds.steps) ≡ c.settle.new.steps - c.args.steps.now = omega (arith, c.rounds.invariant.counts, c.in_ok-met.ensures.counts) in
-    let W : List ℕ → Type 0 = λ ks. Progress g.E.State.Lattice.below (g.E.State.Lattice.valid (g.E.Equations.bounds c.args.equations.now)) (g.E.State.Lattice.rank (g.E.Equations.bounds c.args.equations.now)) (g.E.Equations.edges c.args.equations.now) (g.E.Equations.weight c.args.equations.now) (g.E.Equations.points c.args.equations.now) c.args.start c.args.first c.settle.new.states.items ks [] ((c.rounds.steps - c.args.steps.now) + (c.settle.new.steps - c.rounds.steps)) in
+    let W : List ℕ → Type 0 = λ ks. Progress g.E.State.Lattice.below (g.E.State.Lattice.valid (g.E.Equations.bounds c.args.equations.now)) (g.E.State.Lattice.rank (g.E.Equations.bounds c.args.equations.now)) (g.E.Equations.edges c.args.equations.now) (g.E.Equations.weight c.args.equations.now) (g.E.Equations.points c.args.equations.now) c.args.start c.args.first c.settle.new.states ks [] ((c.rounds.steps - c.args.steps.now) + (c.settle.new.steps - c.rounds.steps)) in
     let done = subst W (c.in_ok-met.ensures.settled c.if-not-met.true) run in
-    let T : List (Option g.row.E-State.Denot) → Type 0 = λ t. HoldsReachedPoints (g.E.Equations.edges c.args.equations.now) c.args.start t in
-    subst T (sym c.from_states.ensures) (finish_reached g.E.State.Lattice.below (g.E.State.Lattice.valid (g.E.Equations.bounds c.args.equations.now)) (g.E.State.Lattice.rank (g.E.Equations.bounds c.args.equations.now)) (g.E.Equations.edges c.args.equations.now) (g.E.Equations.weight c.args.equations.now) (g.E.Equations.points c.args.equations.now) c.args.start c.args.first (laws_of g c.args.equations.now) c.settle.new.states.items ((c.rounds.steps - c.args.steps.now) + (c.settle.new.steps - c.rounds.steps)) done)
+    (finish_reached g.E.State.Lattice.below (g.E.State.Lattice.valid (g.E.Equations.bounds c.args.equations.now)) (g.E.State.Lattice.rank (g.E.Equations.bounds c.args.equations.now)) (g.E.Equations.edges c.args.equations.now) (g.E.Equations.weight c.args.equations.now) (g.E.Equations.points c.args.equations.now) c.args.start c.args.first (laws_of g c.args.equations.now) c.settle.new.states ((c.rounds.steps - c.args.steps.now) + (c.settle.new.steps - c.rounds.steps)) done)
+
+pub returns-clause-stands : goal.returns-clause-stands
+returns-clause-stands g c =
+    let run = visits_step g.E.State.Lattice.below (g.E.State.Lattice.valid (g.E.Equations.bounds c.args.equations.now)) (g.E.State.Lattice.rank (g.E.Equations.bounds c.args.equations.now)) (g.E.Equations.edges c.args.equations.now) (g.E.Equations.weight c.args.equations.now) (g.E.Equations.points c.args.equations.now) c.args.start c.args.first (laws_of g c.args.equations.now) c.rounds.states c.rounds.waiting.keys (c.rounds.steps - c.args.steps.now) (c.settle.new.steps - c.rounds.steps) c.settle.new.states c.settle.new.waiting.keys c.rounds.invariant.run c.in_ok-met.ensures.visits in
+    let sums : (c.rounds.steps - c.args.steps.now) + (c.settle.new.steps - c.rounds.steps) ≡ c.settle.new.steps - c.args.steps.now = omega (arith, c.rounds.invariant.counts, c.in_ok-met.ensures.counts) in
+    let W : List ℕ → Type 0 = λ ks. Progress g.E.State.Lattice.below (g.E.State.Lattice.valid (g.E.Equations.bounds c.args.equations.now)) (g.E.State.Lattice.rank (g.E.Equations.bounds c.args.equations.now)) (g.E.Equations.edges c.args.equations.now) (g.E.Equations.weight c.args.equations.now) (g.E.Equations.points c.args.equations.now) c.args.start c.args.first c.settle.new.states ks [] ((c.rounds.steps - c.args.steps.now) + (c.settle.new.steps - c.rounds.steps)) in
+    let done = subst W (c.in_ok-met.ensures.settled c.if-not-met.true) run in
+    done.stands
 
 pub returns-clause-ticks : goal.returns-clause-ticks
 returns-clause-ticks g c = λ most at_most.
-    let run = visits_step g.E.State.Lattice.below (g.E.State.Lattice.valid (g.E.Equations.bounds c.args.equations.now)) (g.E.State.Lattice.rank (g.E.Equations.bounds c.args.equations.now)) (g.E.Equations.edges c.args.equations.now) (g.E.Equations.weight c.args.equations.now) (g.E.Equations.points c.args.equations.now) c.args.start c.args.first (laws_of g c.args.equations.now) c.rounds.states.items c.rounds.waiting.keys (c.rounds.steps - c.args.steps.now) (c.settle.new.steps - c.rounds.steps) c.settle.new.states.items c.settle.new.waiting.keys c.rounds.invariant.run c.in_ok-met.ensures.visits in
+    let run = visits_step g.E.State.Lattice.below (g.E.State.Lattice.valid (g.E.Equations.bounds c.args.equations.now)) (g.E.State.Lattice.rank (g.E.Equations.bounds c.args.equations.now)) (g.E.Equations.edges c.args.equations.now) (g.E.Equations.weight c.args.equations.now) (g.E.Equations.points c.args.equations.now) c.args.start c.args.first (laws_of g c.args.equations.now) c.rounds.states c.rounds.waiting.keys (c.rounds.steps - c.args.steps.now) (c.settle.new.steps - c.rounds.steps) c.settle.new.states c.settle.new.waiting.keys c.rounds.invariant.run c.in_ok-met.ensures.visits in
     let sums : (c.rounds.steps - c.args.steps.now) + (c.settle.new.steps - c.rounds.steps) ≡ c.settle.new.steps - c.args.steps.now = omega (arith, c.rounds.invariant.counts, c.in_ok-met.ensures.counts) in
-    let W : List ℕ → Type 0 = λ ks. Progress g.E.State.Lattice.below (g.E.State.Lattice.valid (g.E.Equations.bounds c.args.equations.now)) (g.E.State.Lattice.rank (g.E.Equations.bounds c.args.equations.now)) (g.E.Equations.edges c.args.equations.now) (g.E.Equations.weight c.args.equations.now) (g.E.Equations.points c.args.equations.now) c.args.start c.args.first c.settle.new.states.items ks [] ((c.rounds.steps - c.args.steps.now) + (c.settle.new.steps - c.rounds.steps)) in
+    let W : List ℕ → Type 0 = λ ks. Progress g.E.State.Lattice.below (g.E.State.Lattice.valid (g.E.Equations.bounds c.args.equations.now)) (g.E.State.Lattice.rank (g.E.Equations.bounds c.args.equations.now)) (g.E.Equations.edges c.args.equations.now) (g.E.Equations.weight c.args.equations.now) (g.E.Equations.points c.args.equations.now) c.args.start c.args.first c.settle.new.states ks [] ((c.rounds.steps - c.args.steps.now) + (c.settle.new.steps - c.rounds.steps)) in
     let done = subst W (c.in_ok-met.ensures.settled c.if-not-met.true) run in
     let weight = g.E.Equations.weight c.args.equations.now in
-    let paid = finish_ticks g.E.State.Lattice.below (g.E.State.Lattice.valid (g.E.Equations.bounds c.args.equations.now)) (g.E.State.Lattice.rank (g.E.Equations.bounds c.args.equations.now)) (g.E.Equations.edges c.args.equations.now) (g.E.Equations.weight c.args.equations.now) (g.E.Equations.points c.args.equations.now) c.args.start c.args.first (laws_of g c.args.equations.now) c.settle.new.states.items ((c.rounds.steps - c.args.steps.now) + (c.settle.new.steps - c.rounds.steps)) done most at_most in
-    let same : weight_of weight c.settle.new.states.items ≡ weight_of weight c.from_states.result = ap (λ (t : List (Option g.row.E-State.Denot)). weight_of weight t) (sym c.from_states.ensures) in
-    let total : ℕ → Type 0 = λ n. (c.rounds.steps - c.args.steps.now) + (c.settle.new.steps - c.rounds.steps) ≤ n * (most + 1) in
-    let bound = subst total same paid in
-    omega (arith, bound, c.rounds.invariant.counts, c.in_ok-met.ensures.counts)
+    let paid = finish_ticks g.E.State.Lattice.below (g.E.State.Lattice.valid (g.E.Equations.bounds c.args.equations.now)) (g.E.State.Lattice.rank (g.E.Equations.bounds c.args.equations.now)) (g.E.Equations.edges c.args.equations.now) (g.E.Equations.weight c.args.equations.now) (g.E.Equations.points c.args.equations.now) c.args.start c.args.first (laws_of g c.args.equations.now) c.settle.new.states ((c.rounds.steps - c.args.steps.now) + (c.settle.new.steps - c.rounds.steps)) done most at_most in
+    omega (arith, paid, c.rounds.invariant.counts, c.in_ok-met.ensures.counts)
 
 pub returns-clause-bound : goal.returns-clause-bound
 returns-clause-bound g c = λ most at_most.
-    let run = visits_step g.E.State.Lattice.below (g.E.State.Lattice.valid (g.E.Equations.bounds c.args.equations.now)) (g.E.State.Lattice.rank (g.E.Equations.bounds c.args.equations.now)) (g.E.Equations.edges c.args.equations.now) (g.E.Equations.weight c.args.equations.now) (g.E.Equations.points c.args.equations.now) c.args.start c.args.first (laws_of g c.args.equations.now) c.rounds.states.items c.rounds.waiting.keys (c.rounds.steps - c.args.steps.now) (c.settle.new.steps - c.rounds.steps) c.settle.new.states.items c.settle.new.waiting.keys c.rounds.invariant.run c.in_ok-met.ensures.visits in
-    let bound = within_bound g.E.State.Lattice.below (g.E.State.Lattice.valid (g.E.Equations.bounds c.args.equations.now)) (g.E.State.Lattice.rank (g.E.Equations.bounds c.args.equations.now)) (g.E.Equations.edges c.args.equations.now) (g.E.Equations.weight c.args.equations.now) (g.E.Equations.points c.args.equations.now) c.args.start c.args.first (laws_of g c.args.equations.now) c.settle.new.states.items c.settle.new.waiting.keys ((c.rounds.steps - c.args.steps.now) + (c.settle.new.steps - c.rounds.steps)) run most at_most in
+    let run = visits_step g.E.State.Lattice.below (g.E.State.Lattice.valid (g.E.Equations.bounds c.args.equations.now)) (g.E.State.Lattice.rank (g.E.Equations.bounds c.args.equations.now)) (g.E.Equations.edges c.args.equations.now) (g.E.Equations.weight c.args.equations.now) (g.E.Equations.points c.args.equations.now) c.args.start c.args.first (laws_of g c.args.equations.now) c.rounds.states c.rounds.waiting.keys (c.rounds.steps - c.args.steps.now) (c.settle.new.steps - c.rounds.steps) c.settle.new.states c.settle.new.waiting.keys c.rounds.invariant.run c.in_ok-met.ensures.visits in
+    let bound = within_bound g.E.State.Lattice.below (g.E.State.Lattice.valid (g.E.Equations.bounds c.args.equations.now)) (g.E.State.Lattice.rank (g.E.Equations.bounds c.args.equations.now)) (g.E.Equations.edges c.args.equations.now) (g.E.Equations.weight c.args.equations.now) (g.E.Equations.points c.args.equations.now) c.args.start c.args.first (laws_of g c.args.equations.now) c.settle.new.states c.settle.new.waiting.keys ((c.rounds.steps - c.args.steps.now) + (c.settle.new.steps - c.rounds.steps)) run most at_most in
     omega (arith, bound, c.rounds.invariant.counts, c.in_ok-met.ensures.counts)
 
 pub returns-in_err-met-clause-bound : goal.returns-in_err-met-clause-bound
 returns-in_err-met-clause-bound g c = λ most at_most.
-    let bound = failed_bound g.E.State.Lattice.below (g.E.State.Lattice.valid (g.E.Equations.bounds c.args.equations.now)) (g.E.State.Lattice.rank (g.E.Equations.bounds c.args.equations.now)) (g.E.Equations.edges c.args.equations.now) (g.E.Equations.weight c.args.equations.now) (g.E.Equations.points c.args.equations.now) c.args.start c.args.first (laws_of g c.args.equations.now) c.rounds.states.items c.rounds.waiting.keys (c.rounds.steps - c.args.steps.now) (c.settle.new.steps - c.rounds.steps) c.rounds.invariant.run c.in_err-met.ensures.failed most at_most in
+    let bound = failed_bound g.E.State.Lattice.below (g.E.State.Lattice.valid (g.E.Equations.bounds c.args.equations.now)) (g.E.State.Lattice.rank (g.E.Equations.bounds c.args.equations.now)) (g.E.Equations.edges c.args.equations.now) (g.E.Equations.weight c.args.equations.now) (g.E.Equations.points c.args.equations.now) c.args.start c.args.first (laws_of g c.args.equations.now) c.rounds.states c.rounds.waiting.keys (c.rounds.steps - c.args.steps.now) (c.settle.new.steps - c.rounds.steps) c.rounds.invariant.run c.in_err-met.ensures.failed most at_most in
     omega (arith, bound, c.rounds.invariant.counts, c.in_err-met.ensures.counts)
