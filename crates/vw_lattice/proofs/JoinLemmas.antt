@@ -1,12 +1,12 @@
 -- What the join of two maps, entry by entry, is among all maps.
-use Rattle.std.proofs.Common.{◌≡◌, ℕ, ◌<◌, ◌≤◌, Bool, true, false, List, [], ◌∷◌, ◌++◌, length, get_or, take, drop, Option, Some, None, refl, sym, ap, subst, ◌∙◌, arith, inl, inr, ◌⊎◌}
+use Rattle.std.proofs.Common.{◌≡◌, ◌↔◌, ℕ, ◌<◌, ◌≤◌, Bool, true, false, List, [], ◌∷◌, ◌++◌, length, get_or, take, drop, Option, Some, None, refl, sym, ap, subst, ◌∙◌, arith, inl, inr, ◌⊎◌}
 use Rattle.std.specs.Prelude.{ℤ, ◌<ℤ◌, ◌||◌, Result, Ok, Err, IfOk, OnOk, OnErr}
 use Rattle.std.specs.List.{All}
 use Rattle.std.proofs.lemmas.List.{get_or_append_left, get_or_push, length_push, length-take, get_or-take, same_from_push, take-append-drop}
 use Rattle.std.proofs.lemmas.List.Elements.{All-push}
 use Rattle.std.proofs.lemmas.List.Quantifiers.{all_pairs_push}
 use Rattle.vw_lattice.specs.Order.{IsJoin, TellsChange}
-use Rattle.vw_lattice.specs.Entries.{IsAscending, value_at, map_below, IsValidMap}
+use Rattle.vw_lattice.specs.Entries.{IsAscending, value_at, map_below, IsValidMap, HasKey}
 use Rattle.vw_lattice.specs.EntryOrder.{value_at_here, value_at_there, same_or_not, value_at_absent, apart_from_lt, value_at_append_found, value_at_append_absent}
 use Rattle.vw_lattice.specs.Joined.{Joined, JoinsValue, JoinedFront, none, keep, omit}
 
@@ -261,3 +261,18 @@ answer_told {V} below is_valid look old new whole (Ok changed) lists ok =
     let J : List (ℤ × V) → Type 0 = λ os. Joined below is_valid look os new changed in
     joined_told below is_valid look whole new changed (subst J lists ok)
 answer_told below is_valid look old new whole (Err _) lists ok = tt
+
+-- the keys of a join are those of both
+pub answer_keys : {V E : Type 0} (below : V → V → Type 0) (is_valid : V → Type 0) (old lent other new whole : List (ℤ × V)) (answer : Result Bool E) → old ≡ whole → lent ≡ other → IsAscending old → IfOk answer (λ changed. Joined below is_valid (value_at lent) old new changed) → OnOk answer ((key : ℤ) → HasKey new key ↔ (HasKey whole key × HasKey other key))
+answer_keys {V} below is_valid old lent other new whole (Ok changed) lists lents ascends ok = λ key.
+    let H : List (ℤ × V) → Type 0 = λ es. HasKey es key in (
+      λ has.
+          let from = joined_from below is_valid (value_at lent) old new changed ok ascends key has.0 has.1 in
+          (subst H lists (from.mine, from.found), subst H lents (from.theirs, from.looked)),
+      λ both.
+          let mine = subst H (sym lists) both.0 in
+          let theirs = subst H (sym lents) both.1 in
+          let to = joined_to below is_valid (value_at lent) old new changed ok ascends key mine.0 theirs.0 mine.1 theirs.1 in
+          (to.value, to.present),
+    )
+answer_keys below is_valid old lent other new whole (Err _) lists lents ascends ok = tt

@@ -1,5 +1,5 @@
 -- Maps from integers, as lists of a key and a value with the keys ascending.
-use Rattle.std.specs.Prelude.{◌≡◌, ◌<ℤ◌, ℤ, ℕ, ◌+◌, ◌<◌, ◌≤◌, length, slice_index_or, List, [], ◌∷◌, Option, None, Some, if◌then◌else◌}
+use Rattle.std.specs.Prelude.{◌≡◌, ◌<ℤ◌, ◌≤ℤ◌, ◌⊎◌, ℤ, ℕ, ◌+◌, ◌<◌, ◌≤◌, length, slice_index_or, List, [], ◌∷◌, Option, None, Some, if◌then◌else◌}
 use Rattle.std.specs.List.{AllPairs, AllWithin}
 use Rattle.std.specs.Ordering.{int_eq}
 
@@ -40,3 +40,13 @@ pub record MissingAt {V : Type 0} (entries : List (ℤ × V)) (key : ℤ) (at : 
   pub within : at ≤ length entries
   pub below : AllWithin (λ entry. entry.0 <ℤ key) entries 0 at
   pub above : AllWithin (λ entry. key <ℤ entry.0) entries at (length entries)
+
+-- the map has the key
+abbrev pub HasKey : {V : Type 0} → List (ℤ × V) → ℤ → Type 0
+HasKey {V} entries key = (value : V) × (value_at entries key ≡ Some value)
+
+-- the keys from `low` to `high` - 1 are absent, and at every other key stands what stood there
+pub record CutsKeys {V : Type 0} (low high : ℤ) (old new : List (ℤ × V)) : Type 0 where
+  pub ascending : IsAscending new
+  pub inside : (key : ℤ) → low ≤ℤ key → key <ℤ high → value_at new key ≡ None
+  pub outside : (key : ℤ) → (key <ℤ low) ⊎ (high ≤ℤ key) → value_at new key ≡ value_at old key

@@ -1,9 +1,11 @@
-ghost use Rattle.std.specs.Prelude.{◌≡◌, ◌≢◌, ◌≤◌, ℤ, [], length, IsTrue, ◌↔◌, Some, None, MatchOption, OnOk, OnErr, slice_get};
+ghost use Rattle.std.specs.Prelude.{◌≡◌, ◌≢◌, ◌≤◌, ◌≤ℤ◌, ◌<ℤ◌, ◌⊎◌, ℤ, [], length, IsTrue, ◌↔◌, Some, None, MatchOption, IfOk, OnOk, OnErr, slice_get};
 ghost use Rattle.std.specs.Option.{option_copied};
-ghost use Rattle.vw_lattice.specs.Entries.{IsAscending, value_at, IsBelowAt, map_below, IsValidMap, map_rank};
+ghost use Rattle.vw_lattice.specs.Entries.{IsAscending, value_at, IsBelowAt, map_below, IsValidMap, map_rank, HasKey};
+ghost use Rattle.vw_lattice.specs.Order.{IsJoin, TellsChange};
 ghost use Rattle.vw_lattice.specs.EntryOrder.{value_laws, map_reflexive, map_transitive, map_antisymmetric, map_ranks};
 
 use crate::Lattice;
+use crate::cuts::cut_keys;
 use crate::joins::join_entries;
 use crate::places::find;
 use std::alloc::Global;
@@ -96,6 +98,16 @@ impl<V: Drop> MapOf<V> {
             Err(_) => {}
         }
     }
+
+    /// Takes out the keys from `low` to `high` - 1 and their values. Takes no memory.
+    pub fn cut_range(&mut self, low: i64, high: i64)
+        ensures inside { (key : ℤ) → low ≤ℤ key → key <ℤ high → value_at self.new key ≡ None }
+        ensures outside { (key : ℤ) → (key <ℤ low) ⊎ (high ≤ℤ key)
+            → value_at self.new key ≡ value_at self.old key }
+        ensures ascending { IsAscending self.new }
+    {
+        cut_keys(&mut self.entries, low, high);
+    }
 }
 
 impl<V: Lattice> MapOf<V> {
@@ -128,7 +140,13 @@ impl<V: Lattice> Lattice for MapOf<V> {
         true
     }
 
-    fn join(&mut self, other: &Self, bounds: &V::Bounds) -> Result<bool, OutOfMemory> {
+    fn join(&mut self, other: &Self, bounds: &V::Bounds) -> Result<bool, OutOfMemory>
+        ensures kept { IsValidMap (V.valid bounds.now) self.old → IsValidMap (V.valid bounds.now) self.new }
+        ensures join { OnOk result (IsValidMap (V.valid bounds.now) self.old → IsValidMap (V.valid bounds.now) other.now
+            → IsJoin (map_below V.below) (IsValidMap (V.valid bounds.now)) self.old other.now self.new) }
+        ensures changed { IfOk result (λ changed. TellsChange changed self.old self.new) }
+        ensures keys { OnOk result ((key : ℤ) → HasKey self.new key ↔ (HasKey self.old key × HasKey other.now key)) }
+    {
         join_entries(&mut self.entries, other.entries.as_slice(), bounds)
     }
 

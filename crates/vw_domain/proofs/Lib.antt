@@ -1,0 +1,4 @@
+pub mod RowLemmas
+pub mod SlotLemmas
+pub mod StateJoins
+pub mod Lowers

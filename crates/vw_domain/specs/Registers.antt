@@ -1,0 +1,76 @@
+-- What is known of the sixteen registers: their distances from the value of rsp at the function's entry, and their
+-- values.
+use Rattle.std.specs.Prelude.{◌≡◌, ℕ, ◌+◌, ◌^◌, ◌<◌, ◌≤◌, ◌⊎◌, ℤ, pos, ◌-ℤ◌, ◌≤ℤ◌, List, [], ◌∷◌, length, get_or}
+use Rattle.vw_lattice.specs.Order.{IsJoin}
+use Rattle.vw_stack.specs.Stack.{offset_below, offset_rank}
+use Rattle.vw_stack.specs.declared.offset.Offset.{Offset}
+use Rattle.vw_stack.specs.declared.offset.Offset.TheVariants.{Known, Unknown}
+use Rattle.vw_values.specs.declared.value.Value.{Value}
+use Rattle.vw_values.specs.declared.value.Value.TheVariants.{Any}
+use Rattle.vw_values.specs.Values.{IsValue, IsAmong, IsNumber, value_below}
+use Rattle.vw_values.specs.Rank.{value_rank}
+use Rattle.vw_domain.specs.declared.registers.Register.{Register}
+
+-- the number is at most n, and its negative too
+abbrev pub IsWithin : ℕ → ℤ → Type 0
+IsWithin n z = ((pos 0 -ℤ pos n) ≤ℤ z) × (z ≤ℤ pos n)
+
+-- a register with a known distance has any value, or a number: no symbol
+abbrev pub OffsetFits : Offset → Value → Type 0
+OffsetFits Unknown v = Unit {0}
+OffsetFits (Known c) v = IsWithin (2 ^ 31) c × ((v ≡ Any) ⊎ IsNumber v)
+
+pub record IsRegister (r : Register) : Type 0 where
+  pub value : IsValue r.value
+  pub offset : OffsetFits r.offset r.value
+
+-- and the bound of its value is among these
+pub record IsValidRegister (bounds : List ℕ) (r : Register) : Type 0 where
+  pub register : IsRegister r
+  pub among : IsAmong bounds r.value
+
+-- lower in both
+pub record register_below (low high : Register) : Type 0 where
+  pub offset : offset_below low.offset high.offset
+  pub value : value_below low.value high.value
+
+abbrev pub register_rank : List ℕ → Register → ℕ
+register_rank bounds r = offset_rank r.offset + value_rank bounds r.value
+
+-- ---- the row of all registers
+
+-- what stands for an element behind the last one
+abbrev pub blank : Register
+blank = record { offset = Known (pos 0); value = Any }
+
+abbrev pub register_at : List Register → ℕ → Register
+register_at row r = get_or row r blank
+
+abbrev pub row_below : List Register → List Register → Type 0
+row_below low high = (r : ℕ) → r < 16 → register_below (register_at low r) (register_at high r)
+
+abbrev pub row_rank : List ℕ → List Register → ℕ
+row_rank bounds [] = 0
+row_rank bounds (r ∷ rest) = register_rank bounds r + row_rank bounds rest
+
+-- there are sixteen, each in its ranges
+pub record IsRow (row : List Register) : Type 0 where
+  pub sixteen : length row ≡ 16
+  pub registers : (r : ℕ) → r < 16 → IsRegister (register_at row r)
+
+abbrev pub IsValidRow : List ℕ → List Register → Type 0
+IsValidRow bounds row = (r : ℕ) → r < 16 → IsValidRegister bounds (register_at row r)
+
+-- the first n registers are joined
+abbrev pub IsJoinedRow : List ℕ → ℕ → List Register → List Register → List Register → Type 0
+IsJoinedRow bounds n left right join =
+    (r : ℕ) → r < n → IsJoin register_below (IsValidRegister bounds) (register_at left r) (register_at right r) (register_at join r)
+
+-- each of sixteen is joined
+pub record JoinsRows (bounds : List ℕ) (left right join : List Register) : Type 0 where
+  pub sixteen : length join ≡ 16
+  pub joined : IsJoinedRow bounds 16 left right join
+
+-- the bound that each register's value names is among these
+abbrev pub IsRowAmong : List ℕ → List Register → Type 0
+IsRowAmong bounds row = (r : ℕ) → r < 16 → IsAmong bounds (register_at row r).value

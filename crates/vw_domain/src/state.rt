@@ -1,0 +1,135 @@
+ghost use Rattle.std.specs.Prelude.{◌≡◌, ◌↔◌, IsTrue};
+ghost use Rattle.vw_domain.specs.State.{Fits, IsState, IsValidState, state_below, state_rank, known, entry_state};
+ghost use Rattle.vw_domain.specs.StateOrder.{state_reflexive, state_transitive, state_antisymmetric, state_falls, state_strict};
+
+use crate::parts::{Parts, copy, is_below, join, unknown};
+use crate::registers::{Register, is_row_among};
+use crate::slots::are_slots_among;
+use std::alloc::Global;
+use std::marker::Model;
+use vw_bits::OutOfMemory;
+use vw_lattice::Lattice;
+use vw_stack::Offset;
+use vw_values::{Bounds, Value};
+
+/// What is known at a point of a function, which contracts see as its parts: of each register its distance from
+/// the value of rsp at the function's entry and its value; how deep the stack was probed; which bytes of the frame
+/// were written; the values of slots; which places hold equal values; and what the flags tell. A lower state says
+/// more. Valid are the states whose values name no bounds but those given.
+#[derive(Drop)]
+pub struct State {
+    pub(crate) alloc: Global,
+    pub(crate) parts: Parts,
+}
+
+impl Model for State {
+    ghost use Rattle.vw_domain.specs.declared.parts.Parts.{Parts};
+    ghost use Rattle.vw_domain.specs.State.{IsState};
+
+    ghost Value = { Parts };
+
+    ghost view = { λ state. state.parts };
+
+    ghost invariant = { λ state. IsState state.parts };
+}
+
+impl State {
+    /// Whether each bound that a value of the state names is among these.
+    pub fn fits(&self, bounds: &Bounds) -> bool
+        ensures { IsTrue result ↔ Fits bounds.now self.now }
+    {
+        is_row_among(&self.parts.registers, bounds) && are_slots_among(&self.parts.slots, bounds)
+    }
+}
+
+impl Lattice for State {
+    type Bounds = Bounds;
+
+    ghost valid = { IsValidState };
+
+    ghost below = { state_below };
+
+    ghost rank = { state_rank };
+
+    fn leq(&self, other: &Self) -> bool {
+        is_below(&self.parts, &other.parts)
+    }
+
+    fn join(&mut self, other: &Self, bounds: &Bounds) -> Result<bool, OutOfMemory> {
+        if other.leq(self) {
+            return Ok(false);
+        }
+        if !self.fits(bounds) {
+            return Ok(false);
+        }
+        if !other.fits(bounds) {
+            return Ok(false);
+        }
+        bounds.are_bounds();
+        match join(&mut self.parts, &other.parts, bounds) {
+            Ok(()) => Ok(true),
+            Err(error) => {
+                self.parts = unknown(self.alloc);
+                Err(error)
+            }
+        }
+    }
+
+    fn copy(&self) -> Result<Self, OutOfMemory> {
+        let parts = copy(&self.parts)?;
+        Ok(State {
+            alloc: self.alloc,
+            parts,
+        })
+    }
+
+    ghost reflexive = { state_reflexive };
+
+    ghost transitive = { state_transitive };
+
+    ghost antisymmetric = { state_antisymmetric };
+
+    ghost rank_falls = { state_falls };
+
+    ghost rank_strict = { state_strict };
+}
+
+fn known(value: Value) -> Register
+    ensures { result ≡ known value }
+{
+    Register {
+        offset: Offset::Unknown,
+        value,
+    }
+}
+
+/// The state at a function's entry: rsp is at offset 0, rdi holds the heap's base, rbx, rbp and r12 to r15 hold what
+/// the caller left in them, the other registers hold numbers, and nothing else is known. Takes no memory.
+pub fn entry_state(alloc: Global) -> State
+    ensures { result ≡ entry_state }
+{
+    let mut parts = unknown(alloc);
+    let number = known(Value::Num);
+    parts.registers = [
+        number,
+        number,
+        number,
+        known(Value::Entry(3)),
+        Register {
+            offset: Offset::Known(0),
+            value: Value::Any,
+        },
+        known(Value::Entry(5)),
+        number,
+        known(Value::HeapBase),
+        number,
+        number,
+        number,
+        number,
+        known(Value::Entry(12)),
+        known(Value::Entry(13)),
+        known(Value::Entry(14)),
+        known(Value::Entry(15)),
+    ];
+    State { alloc, parts }
+}

@@ -1,0 +1,4 @@
+pub mod Division
+pub mod DivisionOrder
+pub mod Spot
+pub mod Groups

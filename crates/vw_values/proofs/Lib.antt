@@ -1,0 +1,16 @@
+pub mod UpLemmas
+pub mod Search
+pub mod JoinLemmas
+pub mod PowerLemmas
+pub mod MadeBounds
+pub mod SoundSums
+pub mod RisingSums
+pub mod ValidSums
+pub mod DifferenceLemmas
+pub mod NarrowLemmas
+pub mod MaskLemmas
+pub mod MultipleLemmas
+pub mod SmallRanks
+pub mod GreaterValues
+pub mod Meets
+pub mod Refining

@@ -1,0 +1,5 @@
+use Rattle.vw_values.proofs.GreaterValues as values
+use Rattle.vw_values.proofs.laws.joins_rise.Goals as goal
+
+pub returns : goal.returns
+returns c = values.joins-rise
