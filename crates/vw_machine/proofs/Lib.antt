@@ -1,0 +1,13 @@
+pub mod Spans
+pub mod Lists
+pub mod FunctionLemmas
+pub mod CodeLemmas
+pub mod StubLemmas
+pub mod FrameLemmas
+pub mod JudgingLemmas
+pub mod Numbers
+pub mod Words
+pub mod Regions
+pub mod LawLemmas
+pub mod ImageLemmas
+pub mod DoingLemmas

@@ -1,0 +1,119 @@
+-- What stands at rip, and what a step does, as the code has them.
+use Rattle.std.specs.Prelude.{◌≡◌, ℕ, ◌+◌, Bool, not, ◌&&◌, ◌||◌, if◌then◌else◌, List, [], ◌∷◌, ◌++◌, Option, None, Some}
+use Rattle.std.specs.List.{list_any}
+use Rattle.vw_insn.specs.declared.instruction.Insn.{Insn}
+use Rattle.vw_insn.specs.Listed.{IsListed}
+use Rattle.vw_insn.specs.Effect.{Access, reads}
+use Rattle.vw_effect.specs.Meaning.{reads_of, writes_of, transfer_of, after_of}
+use Rattle.vw_stmt.specs.Accesses.{places_of}
+use Rattle.vw_bits.specs.Places.{in_memory}
+use Rattle.vw_image.specs.Words.{readable}
+use Rattle.vw_image.specs.declared.word.Word.{Word}
+use Rattle.vw_image.specs.declared.word.Word.TheVariants.{Plain, Based, Bound, Mixed, Outside}
+use Rattle.vw_layout.specs.Tables.{is_empty_tag}
+use Rattle.vw_layout.specs.declared.tables.TableInfo.{TableInfo}
+use Rattle.vw_layout.specs.declared.tables.TableEntry.{TableEntry}
+use Rattle.vw_layout.specs.declared.layout.Module.{Module as Declared}
+use Rattle.vw_machine.specs.declared.world.World.{World}
+use Rattle.vw_machine.specs.declared.event.Event.{Event}
+use Rattle.vw_machine.specs.declared.event.Event.TheVariants.{Goto}
+use Rattle.vw_machine.specs.declared.standing.Place.{Place}
+use Rattle.vw_machine.specs.declared.standing.Place.TheVariants as place
+use Rattle.vw_machine.specs.declared.standing.Thing.{Thing}
+use Rattle.vw_machine.specs.declared.standing.Thing.TheVariants as thing
+use Rattle.vw_machine.specs.declared.doing.Deeds.{Deeds}
+use Rattle.vw_machine.specs.declared.doing.Work.{Work}
+use Rattle.vw_machine.specs.declared.choice.Choice.{Choice}
+use Rattle.vw_machine.specs.World.{is_within, touches, guard_range, heap_range, loaded_range}
+use Rattle.vw_machine.specs.Module.{Module, is_in_table}
+use Rattle.vw_machine.specs.State.{Activation, State}
+use Rattle.vw_machine.specs.Standing.{Here, Code, Stub, Host, Probe, Nowhere, IsInside, IsSpelledAt, IsHostAt, IsProbeAt}
+use Rattle.vw_machine.specs.Step.{after_insn, accesses, does_trap, slot_word}
+use Rattle.vw_machine.specs.Permitted.{is_pointer}
+use Rattle.vw_machine.specs.Events.{read_events, write_events, transfer_events}
+
+abbrev pub here_of : Thing → Here
+here_of (thing.Insn i len) = Code i len
+here_of (thing.Stub slot to) = Stub slot
+here_of thing.Host = Host
+here_of thing.Probe = Probe
+here_of thing.Nowhere = Nowhere
+
+-- a relocation gives the word
+abbrev pub IsRelocated : Word → Type 0
+IsRelocated (Plain number) = ⊥
+IsRelocated (Based to) = Unit {0}
+IsRelocated (Bound number) = Unit {0}
+IsRelocated Mixed = ⊥
+IsRelocated Outside = ⊥
+
+-- the byte at an address is one of the image
+abbrev pub is_image_byte : Module → World → ℕ → Bool
+is_image_byte m w a = list_any (λ part. is_within a 1 (loaded_range w part)) m.image
+
+-- the byte at a place is one of the image that may be read
+abbrev pub is_open : Declared → ℕ → Bool
+is_open declared place =
+    list_any (in_memory place 1) declared.image.segments && (readable declared.image place 1 || list_any (is_in_table place) declared.tables)
+
+-- an entry that is not empty has this address
+abbrev pub is_entry_to : World → ℕ → TableEntry → Bool
+is_entry_to w to entry = not (is_empty_tag entry.tag) && is_pointer w entry.pointer to
+
+-- an entry of the table does
+abbrev pub has_entry_to : World → ℕ → TableInfo → Bool
+has_entry_to w to table = list_any (is_entry_to w to) table.entries
+
+module _ (m : Module) (w : World) where
+  -- the place is where rip lies, seen from the declared function of the activation
+  abbrev pub IsPlaceOf : Activation → ℕ → Place → Type 0
+  IsPlaceOf top rip place.Outside = ¬ IsInside m w top rip
+  IsPlaceOf top rip place.Unspelled = IsInside m w top rip × ((i : Insn) (len : ℕ) → ¬ IsSpelledAt m w top rip i len)
+  IsPlaceOf top rip (place.Spelled i len) = IsSpelledAt m w top rip i len × IsListed i
+
+  -- what is known of a thing beside where it stands
+  abbrev pub IsKnown : Thing → Type 0
+  IsKnown (thing.Insn i len) = IsListed i
+  IsKnown (thing.Stub slot to) = to ≡ slot_word m w slot
+  IsKnown thing.Host = Unit {0}
+  IsKnown thing.Probe = Unit {0}
+  IsKnown thing.Nowhere = Unit {0}
+
+  -- the thing is the function of the host at rip, or there is none
+  abbrev pub IsHostThing : ℕ → Thing → Type 0
+  IsHostThing rip (thing.Insn i len) = ⊥
+  IsHostThing rip (thing.Stub slot to) = ⊥
+  IsHostThing rip thing.Host = IsHostAt m w rip
+  IsHostThing rip thing.Probe = IsProbeAt m w rip
+  IsHostThing rip thing.Nowhere = (¬ IsHostAt m w rip) × (¬ IsProbeAt m w rip)
+
+abbrev pub goto_events : Option ℕ → List Event
+goto_events None = []
+goto_events (Some to) = Goto to ∷ []
+
+-- the events of what a step does
+abbrev pub deed_events : Deeds → List Event
+deed_events deeds = read_events (reads_of deeds.reads) ++ write_events (places_of (writes_of deeds.write)) ++ goto_events deeds.goto
+
+-- an access touches the guard, or under the choice the heap
+abbrev pub is_trap : World → Choice → Access → Bool
+is_trap w choice a = touches a.at a.size (guard_range w) || (choice.trap && touches a.at a.size (heap_range w))
+
+-- the return address of the activation that was entered last
+abbrev pub back_of : List Activation → Option ℕ
+back_of [] = None
+back_of (top ∷ rest) = Some top.back
+
+-- the events of what an instruction does
+abbrev pub work_events : Work → List Event
+work_events work =
+    read_events (reads_of work.reads)
+    ++ write_events (places_of (writes_of work.after.write))
+    ++ (if work.traps then [] else transfer_events work.next (transfer_of work.after.transfer))
+
+-- what is behind an instruction of this length, what it reads, what it leaves, and whether it traps
+pub record IsWork (m : Module) (w : World) (s : State) (i : Insn) (len : ℕ) (choice : Choice) (work : Work) : Type 0 where
+  pub what_is_next : work.next ≡ s.rip + len
+  pub what_is_read : reads_of work.reads ≡ reads i (s.rip + len) s.registers
+  pub what_is_left : after_of work.after ≡ after_insn m w s i len choice
+  pub whether_it_traps : work.traps ≡ does_trap w i (accesses (reads i (s.rip + len) s.registers) (after_insn m w s i len choice).writes) choice

@@ -1,0 +1,13 @@
+pub mod World
+pub mod Module
+pub mod State
+pub mod Choices
+pub mod Standing
+pub mod Step
+pub mod Events
+pub mod Permitted
+pub mod Entered
+pub mod Answers
+pub mod Kept
+pub mod Found
+pub mod Laws
