@@ -1,1 +1,6 @@
-pub mod Reading
+mod LowestLemmas
+mod Rising
+mod Passing
+mod Points
+mod Rest
+mod Flows

@@ -1,3 +1,6 @@
-pub mod Heap
 pub mod Sites
+pub mod Accesses
+pub mod Covered
 pub mod Checks
+pub mod Safe
+pub mod Modules

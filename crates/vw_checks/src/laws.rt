@@ -1,14 +1,51 @@
 //! Facts about the definitions, each the contract of a function that does nothing.
 
 ghost use Rattle.std.specs.Prelude.{ℕ, List};
+ghost use Rattle.vw_insn.specs.declared.instruction.Insn.{Insn};
 ghost use Rattle.vw_state.specs.State.{IsBelow};
+ghost use Rattle.vw_state.specs.Code.{BeginsAt};
+ghost use Rattle.vw_state.specs.Context.{Context, code_of};
+ghost use Rattle.vw_state.specs.Solution.{IsLower};
+ghost use Rattle.vw_state.specs.Checks.{FailsGraph};
+ghost use Rattle.vw_state.specs.Rounds.{IsLeast};
 ghost use Rattle.vw_state.specs.declared.state.State.{State};
+ghost use Rattle.vw_state.specs.declared.tables.PointState.{PointState};
 ghost use Rattle.vw_checks.specs.Checks.{Fails, Passes};
+ghost use Rattle.vw_checks.specs.Covered.{IsCovered};
+ghost use Rattle.vw_checks.specs.Safe.{IsSafeTable};
+
+use vw_state::one_round;
 
 /// Where no check fails at a state, none fails at a lower state of the same point. Checks 1 and 2 have this
 /// property each by itself.
 pub fn lower_states_pass()
-    ensures passes { (code : List ℕ) (at : ℕ) (low high : State) → IsBelow low high → Passes code at high → Passes code at low }
-    ensures code { (code : List ℕ) (at : ℕ) (low high : State) → IsBelow low high → (Fails code at high 1 → ⊥) → Fails code at low 1 → ⊥ }
-    ensures jump { (code : List ℕ) (at : ℕ) (low high : State) → IsBelow low high → (Fails code at high 2 → ⊥) → Fails code at low 2 → ⊥ }
+    ensures passes { (f : Context) (at : ℕ) (low high : State) → IsBelow low high
+        → Passes f at high → Passes f at low }
+    ensures code { (f : Context) (at : ℕ) (low high : State) → IsBelow low high
+        → (Fails f at high 1 → ⊥) → Fails f at low 1 → ⊥ }
+    ensures jump { (f : Context) (at : ℕ) (low high : State) → IsBelow low high
+        → (Fails f at high 2 → ⊥) → Fails f at low 2 → ⊥ }
 {}
+
+/// The checks that stop the rounds are among all.
+pub fn stops_are_checks()
+    ensures { (f : Context) (at number : ℕ) (state : State)
+        → FailsGraph f at state number → Fails f at state number }
+{}
+
+/// Where no check fails at a point, this version covers the instruction that begins there.
+pub fn passing_code_is_covered()
+    ensures { (f : Context) (at len : ℕ) (state : State) (i : Insn)
+        → Passes f at state → BeginsAt (code_of f) at i len → IsCovered i }
+{}
+
+/// The least table of a function is a safe table where there is one, and it is lower than every safe table.
+pub fn least_table_is_safe()
+    ensures safe { (f : Context) (least table : List PointState)
+        → IsLeast f least → IsSafeTable f table → IsSafeTable f least }
+    ensures lower { (f : Context) (least table : List PointState)
+        → IsLeast f least → IsSafeTable f table → IsLower f least table }
+{
+    lower_states_pass();
+    one_round();
+}

@@ -2,11 +2,14 @@
 #![tactic(auto)]
 
 mod checks;
-mod heap;
+mod covered;
 mod laws;
+mod lowest;
+mod statements;
 
-pub use checks::check;
-pub use laws::lower_states_pass;
+pub use checks::{check, check_of_code};
+pub use covered::is_covered;
+pub use laws::{least_table_is_safe, lower_states_pass, passing_code_is_covered, stops_are_checks};
 
 #[cfg(test)]
 mod tests;

@@ -45,7 +45,7 @@ const FILE: [Patch; 28] = [
 /// lowest number of a check that fails there.
 type Case = (u64, u64, u32, Option<u8>);
 
-const CASES: [Case; 29] = [
+const CASES: [Case; 34] = [
     // nop, and behind its end
     (0x90, 1, 0, None),
     (0x90, 1, 1, Some(1)),
@@ -77,11 +77,17 @@ const CASES: [Case; 29] = [
     (0xc3_8000_0000_878b, 7, 0, Some(4)),
     (0xc3_ffff_ffff_878b, 7, 0, Some(4)),
     (0xc3_7fff_ffff_878b, 7, 0, None),
-    // others than MOV of 32 bits between eax and memory at rdi: of 64 bits, of ecx, at rsi, with an index
-    (0xc3_f847_8b48, 5, 0, None),
-    (0xc3_f84f_8b, 4, 0, None),
-    (0xc3_f846_8b, 4, 0, None),
-    (0xc3_f837_448b, 5, 0, None),
+    // what this version cannot follow: MOV of 64 bits, of ecx, at rsi, with an index; an addition; ENDBR64
+    (0xc3_f847_8b48, 5, 0, Some(4)),
+    (0xc3_f84f_8b, 4, 0, Some(4)),
+    (0xc3_f846_8b, 4, 0, Some(4)),
+    (0xc3_f837_448b, 5, 0, Some(4)),
+    (0xc3_c001_48, 4, 0, Some(4)),
+    (0xfa1e_0ff3, 4, 0, Some(4)),
+    // a jump through a register, calls
+    (0xe0ff, 2, 0, Some(2)),
+    (0xc3_0000_0000_e8, 6, 0, Some(7)),
+    (0xc3_d0ff, 3, 0, Some(7)),
     // ret
     (0xc3, 1, 0, None),
 ];

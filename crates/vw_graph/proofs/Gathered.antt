@@ -1,5 +1,6 @@
 -- The table of points that a table of states gives.
-use Rattle.std.proofs.Common.{◌≡◌, ℕ, zero, suc, ◌+◌, ◌<◌, ◌≤◌, ◌==◌, true, false, List, [], ◌∷◌, ◌++◌, length, take, Option, Some, None, refl, sym, ◌∙◌, ap, arith}
+use Rattle.std.specs.Prelude.{slice_set}
+use Rattle.std.proofs.Common.{◌≡◌, ◌≢◌, get_or-set_other, ℕ, zero, suc, ◌+◌, ◌<◌, ◌≤◌, ◌==◌, true, false, List, [], ◌∷◌, ◌++◌, length, take, Option, Some, None, refl, sym, ◌∙◌, ap, arith}
 use Rattle.std.proofs.lemmas.Bool.Decides.{nat_tests}
 use Rattle.vw_solver.specs.Solution.{state_at}
 use Rattle.vw_state.specs.declared.state.State.{State}
@@ -68,3 +69,10 @@ pub gather_rises : (from last : ℕ) (xs : List (Option State)) → from + lengt
 gather_rises from last [] le = tt
 gather_rises from last (None ∷ xs) le = rises_on from last (gather (suc from) xs) (gather_rises (suc from) last xs (omega (arith, le)))
 gather_rises from last (Some s ∷ xs) le = (omega arith, omega (arith, le), gather_rises (suc from) last xs (omega (arith, le)))
+
+-- ---- states that are taken out of the table
+
+pub later_kept : (xs old new : List (Option State)) (p : ℕ) → new ≡ slice_set old p None → ((q : ℕ) → p ≤ q → state_at old q ≡ state_at xs q) → (q : ℕ) → p + 1 ≤ q → state_at new q ≡ state_at xs q
+later_kept xs old new p e same q above =
+    let apart : q ≢ p = omega (arith, above) in
+    ap (λ (t : List (Option State)). state_at t q) e ∙ (get_or-set_other old p q None None apart ∙ same q (omega (arith, above)))

@@ -4,4 +4,3 @@ mod Spread
 mod Least
 mod Ended
 mod Declared
-mod Sizes

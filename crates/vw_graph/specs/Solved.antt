@@ -1,8 +1,9 @@
--- The solver's table of a function, and what it finds in it.
+-- The solver's table of a function, and what the rounds find in it.
 use Rattle.std.specs.Prelude.{◌≡◌, ℕ, suc, ◌≤◌, List, [], ◌∷◌, Option, Some, None}
 use Rattle.vw_solver.specs.Solution.{state_at}
 use Rattle.vw_state.specs.declared.state.State.{State}
 use Rattle.vw_state.specs.declared.tables.PointState.{PointState}
+use Rattle.vw_state.specs.Context.{Context}
 use Rattle.vw_state.specs.Checks.{FailsGraph}
 
 -- the points that have a state, of a table whose first point is `from`
@@ -17,12 +18,12 @@ held point None = []
 held point (Some s) = record { at = point; state = s } ∷ []
 
 -- no point that has a state fails a check of the graph
-abbrev pub NoneFails : List ℕ → List (Option State) → Type 0
-NoneFails code table = (at : ℕ) (state : State) → state_at table at ≡ Some state → (check : ℕ) → FailsGraph code at check → ⊥
+abbrev pub NoneStops : Context → List (Option State) → Type 0
+NoneStops f table = (at : ℕ) (state : State) → state_at table at ≡ Some state → (check : ℕ) → FailsGraph f at state check → ⊥
 
 -- the lowest point that has a state and fails one, with its lowest check
-pub record FailsFirst (code : List ℕ) (table : List (Option State)) (at check : ℕ) : Type 0 where
+pub record StopsFirst (f : Context) (table : List (Option State)) (at check : ℕ) : Type 0 where
   pub state : State
   pub there : state_at table at ≡ Some state
-  pub fails : FailsGraph code at check
-  pub lowest : (other : ℕ) (s : State) → state_at table other ≡ Some s → (c : ℕ) → FailsGraph code other c → at ≤ other
+  pub fails : FailsGraph f at state check
+  pub lowest : (other : ℕ) (s : State) → state_at table other ≡ Some s → (c : ℕ) → FailsGraph f other s c → at ≤ other

@@ -1,20 +1,30 @@
-ghost use Rattle.std.specs.Prelude.{◌≡◌, ℕ, ◌<◌, ◌^◌, length, IfSome, IfNone};
+ghost use Rattle.std.specs.Prelude.{◌≡◌, ℕ, ◌<◌, ◌≤◌, ◌^◌, length, IfSome, IfNone};
 ghost use Rattle.vw_state.specs.Checks.{FailsGraph};
-ghost use Rattle.vw_graph.specs.Solved.{NoneFails, FailsFirst};
+ghost use Rattle.vw_state.specs.Code.{code_at};
+ghost use Rattle.vw_state.specs.Context.{Context, IsSite};
+ghost use Rattle.vw_graph.specs.Solved.{NoneStops, StopsFirst};
 
+use std::alloc::Global;
 use vw_solver::Solved;
-use vw_state::{State, instruction_at, leaves_function};
+use vw_state::{Site, State, code_is_short, flow_of, instruction_at, leaves_function};
 
 /// The lowest point that has a state and fails a check of the graph, with its lowest check.
-pub(crate) fn first_fault(code: &[u8], solved: &Solved<State>, points: u32) -> Option<(u32, u8)>
+pub(crate) fn first_fault(
+    alloc: Global,
+    site: &Site,
+    code: &[u8],
+    solved: &Solved<State>,
+    points: u32,
+) -> Option<(u32, u8)>
     requires points { length solved.now ≡ points }
-    requires short { length code.now < 2 ^ 32 }
-    ensures some { IfSome result (λ fault. FailsFirst code.now solved.now fault.0 fault.1) }
-    ensures none { IfNone result (NoneFails code.now solved.now) }
+    requires code { code.now ≡ code_at site.now.image.now site.now.entry site.now.size }
+    ensures some { IfSome result (λ fault. (f : Context) → IsSite f site.now
+        → StopsFirst f solved.now fault.0 fault.1) }
+    ensures none { IfNone result ((f : Context) → IsSite f site.now → NoneStops f solved.now) }
 {
     for point in 0..points {
-        if solved.at(point).is_some() {
-            if let Some(check) = graph_fault(code, point) {
+        if let Some(state) = solved.at(point) {
+            if let Some(check) = graph_fault(alloc, site, code, point, state) {
                 return Some((point, check));
             }
         }
@@ -22,16 +32,24 @@ pub(crate) fn first_fault(code: &[u8], solved: &Solved<State>, points: u32) -> O
     None
 }
 
-/// The lowest check of the graph that fails at a point: 1, code, where no instruction begins there, or 2, jump,
-/// where a direct jump or branch leaves the function.
-fn graph_fault(code: &[u8], at: u32) -> Option<u8>
-    requires { length code.now < 2 ^ 32 }
-    ensures some { IfSome result (λ check. FailsGraph code.now at check) }
-    ensures none { IfNone result ((check : ℕ) → FailsGraph code.now at check → ⊥) }
+// The lowest check of the graph that fails at a point with a state: 1, code, where no instruction begins there, or 2,
+// jump, where one may leave the function.
+fn graph_fault(alloc: Global, site: &Site, code: &[u8], at: u32, state: &State) -> Option<u8>
+    requires { code.now ≡ code_at site.now.image.now site.now.entry site.now.size }
+    ensures some { IfSome result (λ check. (f : Context) → IsSite f site.now
+        → FailsGraph f at state.now check) }
+    ensures none { IfNone result ((f : Context) → IsSite f site.now
+        → (check : ℕ) → FailsGraph f at state.now check → ⊥) }
 {
-    match instruction_at(code, at) {
-        Some((insn, len)) if leaves_function(code.len() as u32, at + len, &insn) => Some(2),
-        Some(_) => None,
-        None => Some(1),
+    code_is_short();
+    let size = site.size;
+    let Some((insn, len)) = instruction_at(code, at) else {
+        return Some(1);
+    };
+    let flow = flow_of(alloc, &insn);
+    if leaves_function(size, at + len, flow) {
+        Some(2)
+    } else {
+        None
     }
 }

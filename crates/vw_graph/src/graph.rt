@@ -1,34 +1,51 @@
-ghost use Rattle.std.specs.Prelude.{◌≡◌, ◌+◌, length};
+ghost use Rattle.std.specs.Prelude.{◌≡◌, ◌+◌, ◌≤◌, [], length};
 ghost use Rattle.vw_state.specs.Code.{code_at};
-ghost use Rattle.vw_state.specs.Post.{edges_at};
+ghost use Rattle.vw_state.specs.Context.{Context, context_of};
+ghost use Rattle.vw_state.specs.Post.{edges_with};
 ghost use Rattle.std.proofs.Common.{rules};
-ghost use Rattle.vw_graph.specs.Monotone.{edges_monotone};
+ghost use Rattle.vw_state.specs.Monotone.{edges_monotone};
 
 use std::alloc::Global;
 use std::sync::ledger::Ledger;
 use vw_bits::OutOfMemory;
 use vw_lattice::Lattice;
+use vw_layout::{Function, Module};
 use vw_solver::{Edges, Equations, Steps};
-use vw_state::{Bounds, Site, State, post};
+use vw_state::{Bounds, Site, State, post_of_code};
 
-/// The equations of a function: its points are 0 to its size, and each counts one step.
+/// The equations of the first round over a function of a module: its points are 0 to its size, each counts one step,
+/// and there are no jumps through registers.
 #[derive(Drop)]
 pub(crate) struct Graph<'a> {
-    site: Site<'a>,
+    loaded: &'a Module,
+    declared: &'a Function,
+    code: &'a [u8],
     points: u32,
     bounds: Bounds,
-    ghost whole: { points ≡ length (code_at site.image.now site.entry site.size) + 1 },
+    ghost whole: { points ≡ declared.now.size + 1 },
+    ghost short: { length code.now ≤ declared.now.size },
+    ghost bytes: { code.now ≡ code_at loaded.now.image declared.now.entry declared.now.size },
 }
 
 impl<'a> Graph<'a> {
-    /// The equations of a site, whose points are one more than it has bytes.
-    pub(crate) fn of_site(site: &Site<'a>, points: u32) -> Graph<'a>
-        requires { points ≡ length (code_at site.now.image.now site.now.entry site.now.size) + 1 }
+    /// The equations of a function with this code.
+    pub(crate) fn of_function(
+        loaded: &'a Module,
+        declared: &'a Function,
+        code: &'a [u8],
+        points: u32,
+    ) -> Graph<'a>
+        requires points { points ≡ declared.now.size + 1 }
+        requires short { length code.now ≤ declared.now.size }
+        requires code { code.now ≡ code_at loaded.now.image declared.now.entry declared.now.size }
         ensures points { result.points ≡ points }
-        ensures site { result.site ≡ site.now }
+        ensures loaded { result.loaded.now ≡ loaded.now }
+        ensures declared { result.declared.now ≡ declared.now }
     {
         Graph {
-            site: *site,
+            loaded,
+            declared,
+            code,
             points,
             bounds: Bounds {},
         }
@@ -44,7 +61,8 @@ impl<'a> Equations for Graph<'a> {
 
     ghost weight = { λ graph at. 1 };
 
-    ghost edges = { λ graph at state. edges_at (code_at graph.site.image.now graph.site.entry graph.site.size) at state };
+    ghost edges = { λ graph at state.
+        edges_with (context_of graph.loaded.now graph.declared.now) [] at state };
 
     fn points(&self) -> u32 {
         self.points
@@ -67,12 +85,18 @@ impl<'a> Equations for Graph<'a> {
         steps: &mut Steps<L>,
     ) -> Result<(), OutOfMemory> {
         steps.tick();
-        post(alloc, &self.site, at, state, out)
+        let site = Site {
+            image: &self.loaded.image,
+            entry: self.declared.entry,
+            size: self.declared.size,
+        };
+        post_of_code(alloc, &site, self.code, at, state, out)
     }
 
     ghost valid_edges = { Prim.search rules };
 
-    ghost monotone = { λ graph at x y inside valid_x valid_y under. edges_monotone (code_at graph.site.image.now graph.site.entry graph.site.size) at x y };
+    ghost monotone = { λ graph at x y inside valid_x valid_y under.
+        edges_monotone (context_of graph.loaded.now graph.declared.now) [] at x y under };
 
     ghost weighs = { Prim.search rules };
 }

@@ -1,15 +1,13 @@
-//! The rounds over a function: its least table, and where it leaves the code.
+//! The rounds over a function: its least table, and where it may leave the code.
 #![tactic(auto)]
 
-mod ends;
+mod all_rounds;
 mod faults;
 mod graph;
-mod laws;
 mod round;
 mod solved;
 
-pub use ends::Rounds;
-pub use laws::code_has_its_size;
+pub use all_rounds::Rounds;
 pub use round::rounds;
 
 #[cfg(test)]

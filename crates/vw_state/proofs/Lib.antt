@@ -1,3 +1,8 @@
 mod Begins
 mod Spellings
+mod Sizes
+mod Flows
+mod Order
+mod Alike
+mod RoundLemmas
 pub mod Sites

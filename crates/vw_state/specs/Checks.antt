@@ -1,46 +1,57 @@
--- The checks of the graph: that code is at a point, and that direct jumps and branches stay in the function.
-use Rattle.std.specs.Prelude.{◌≡◌, ◌≤◌, ℕ, ◌+◌, List, length, None, Some}
+-- The checks that stop the rounds: that code is at a point, and that jumps and branches stay in the function.
+use Rattle.std.specs.Prelude.{◌≡◌, ◌≤◌, ℕ, ◌+◌, ℤ, List, None, Some}
 use Rattle.vw_insn.specs.declared.instruction.Insn.{Insn}
-use Rattle.vw_insn.specs.declared.instruction.Insn.TheVariants as insn
+use Rattle.vw_stmt.specs.declared.statement.Flow.{Flow}
+use Rattle.vw_stmt.specs.declared.statement.Flow.TheVariants as flow
+use Rattle.vw_lift.specs.Lifted.{steps, flow_of}
 use Rattle.vw_state.specs.declared.state.State.{State}
 use Rattle.vw_state.specs.declared.tables.PointState.{PointState}
 use Rattle.vw_state.specs.Code.{BeginsAt, NothingAt}
-use Rattle.vw_state.specs.Post.{target, inside}
+use Rattle.vw_state.specs.Context.{Context, code_of}
+use Rattle.vw_state.specs.Post.{relative_point, inside}
+use Rattle.vw_state.specs.Steps.{after_stmts}
 use Rattle.vw_state.specs.Tables.{state_of}
 
--- A direct jump or branch, with `next` behind it, goes out of a function of `size` bytes. By the last case no other
--- instruction does: neither those that go on to the next instruction or end control, nor one of which it is not
--- stated yet where control goes. Of such an instruction this tells nothing.
-abbrev pub GoesOut : ℕ → ℕ → Insn → Type 0
-GoesOut size next (insn.Jump rel) = inside size (target next rel) ≡ None
-GoesOut size next (insn.Jcc cond rel) = inside size (target next rel) ≡ None
-GoesOut size next _ = ⊥
+-- a direct jump or branch with `next` behind it goes out of the function
+abbrev pub IsOutside : Context → ℕ → ℤ → Type 0
+IsOutside f next rel = inside f.size (relative_point next rel) ≡ None
+
+-- A flow with `next` behind it may leave the function as no return or call does: a direct jump or branch goes outside,
+-- or the state does not tell that a jump through a register stays inside. No state tells this yet.
+abbrev pub Leaves : Context → ℕ → State → Flow → Type 0
+Leaves f next state flow.Next = ⊥
+Leaves f next state (flow.Jump rel) = IsOutside f next rel
+Leaves f next state (flow.Branch cond rel) = IsOutside f next rel
+Leaves f next state (flow.JumpReg src) = Unit {0}
+Leaves f next state (flow.Call rel) = ⊥
+Leaves f next state (flow.CallReg src) = ⊥
+Leaves f next state flow.Ret = ⊥
+Leaves f next state flow.Stop = ⊥
 
 -- Check 1, code: nothing decodes in the bytes from the point to the function's end. No bytes are left from a point
 -- at or above the function's size on, so nothing decodes there either, and the check fails.
-abbrev pub LacksCode : List ℕ → ℕ → Type 0
-LacksCode code at = NothingAt code at
+abbrev pub LacksCode : Context → ℕ → Type 0
+LacksCode f at = NothingAt (code_of f) at
 
--- Check 2, jump: a direct jump or branch stands at the point, and leaves the function. An instruction of which it
--- is not stated yet where control goes does not fail it.
-pub record LeavesFunction (code : List ℕ) (at : ℕ) : Type 0 where
+-- Check 2, jump: the instruction at the point, with the state before it, may leave the function.
+pub record LeavesFunction (f : Context) (at : ℕ) (state : State) : Type 0 where
   pub instruction : Insn
   pub len : ℕ
-  pub stands : BeginsAt code at instruction len
-  pub goes_out : GoesOut (length code) (at + len) instruction
+  pub stands : BeginsAt (code_of f) at instruction len
+  pub leaves : Leaves f (at + len) (after_stmts f (at + len) (steps instruction) state) (flow_of instruction)
 
--- the lowest check of these two that fails at a point
-pub data FailsGraph (code : List ℕ) (at : ℕ) : ℕ → Type 0 where
-  lacks_code : LacksCode code at → FailsGraph code at 1
-  leaves : (LacksCode code at → ⊥) → LeavesFunction code at → FailsGraph code at 2
+-- the lowest check of these two that fails at a point with a state
+pub data FailsGraph (f : Context) (at : ℕ) (state : State) : ℕ → Type 0 where
+  lacks_code : LacksCode f at → FailsGraph f at state 1
+  leaves : (LacksCode f at → ⊥) → LeavesFunction f at state → FailsGraph f at state 2
 
 -- no point of the table fails one of them
-abbrev pub PassesGraph : List ℕ → List PointState → Type 0
-PassesGraph code table = (at : ℕ) (state : State) → state_of table at ≡ Some state → (check : ℕ) → FailsGraph code at check → ⊥
+abbrev pub PassesGraph : Context → List PointState → Type 0
+PassesGraph f table = (at : ℕ) (state : State) → state_of table at ≡ Some state → (check : ℕ) → FailsGraph f at state check → ⊥
 
 -- The lowest point of the table that fails one of them, with its lowest check.
-pub record StopsAt (code : List ℕ) (table : List PointState) (at check : ℕ) : Type 0 where
+pub record StopsAt (f : Context) (table : List PointState) (at check : ℕ) : Type 0 where
   pub state : State
   pub there : state_of table at ≡ Some state
-  pub fails : FailsGraph code at check
-  pub lowest : (other : ℕ) (s : State) → state_of table other ≡ Some s → (c : ℕ) → FailsGraph code other c → at ≤ other
+  pub fails : FailsGraph f at state check
+  pub lowest : (other : ℕ) (s : State) → state_of table other ≡ Some s → (c : ℕ) → FailsGraph f other s c → at ≤ other

@@ -1,6 +1,12 @@
 pub mod State
+pub mod Bounds
 pub mod Code
+pub mod Context
+pub mod Steps
 pub mod Post
 pub mod Tables
 pub mod Solution
 pub mod Checks
+pub mod Rounds
+pub mod Addresses
+pub mod Monotone

@@ -1,32 +1,42 @@
--- Solutions of a function's equations, and the least of them (Nielson, Nielson and Hankin, Principles of
--- Program Analysis, chapter 2).
-use Rattle.std.specs.Prelude.{◌≡◌, ℕ, List, length, Some}
+-- Tables that solve a function's equations, and the least of them (Nielson, Nielson and Hankin, Principles of Program
+-- Analysis, chapter 2).
+use Rattle.std.specs.Prelude.{◌≡◌, ℕ, List, Some}
 use Rattle.std.specs.List.{All}
 use Rattle.vw_state.specs.declared.state.State.{State}
 use Rattle.vw_state.specs.declared.tables.PointState.{PointState}
-use Rattle.vw_state.specs.State.{IsBelow, entry}
-use Rattle.vw_state.specs.Post.{Post}
+use Rattle.vw_state.specs.State.{IsBelow, entry_state}
+use Rattle.vw_state.specs.Context.{Context, IsWithinBounds}
+use Rattle.vw_state.specs.Post.{Post, PostWith}
 use Rattle.vw_state.specs.Tables.{state_of, RisesWithin}
 
--- a state that an edge carries lands below that of the edge's target: the table gives this one, and it is
--- greater or equal
-pub record Lands (table : List PointState) (edge : ℕ × State) : Type 0 where
+-- A state that an edge carries lands below that of the edge's target: the table gives the target a state, each bound of
+-- its values is one of the function's, and it is greater or equal.
+pub record Lands (f : Context) (table : List PointState) (edge : ℕ × State) : Type 0 where
   pub cover : State
   pub there : state_of table edge.0 ≡ Some cover
+  pub fits : IsWithinBounds f cover
   pub is_below : IsBelow edge.1 cover
 
--- A table that gives some points, from 0 to the size, a state each: the entry state lands at 0, and so does
--- each edge of each point with its state.
-pub record IsSolution (code : List ℕ) (table : List PointState) : Type 0 where
-  pub rises : RisesWithin 0 (length code) table
-  pub begins : Lands table (0, entry)
-  pub closed : (at : ℕ) (state : State) → state_of table at ≡ Some state → (edges : List (ℕ × State)) → Post code at state edges → All (Lands table) edges
+-- A table that gives some points, from 0 to the size, a state each: the entry state lands at 0, and so does each of the
+-- edges that leave a point with its state.
+pub record SolvesBy (f : Context) (Edges : ℕ → State → List (ℕ × State) → Type 0) (table : List PointState) : Type 0 where
+  pub rises : RisesWithin 0 f.size table
+  pub begins : Lands f table (0, entry_state)
+  pub closed : (at : ℕ) (state : State) → state_of table at ≡ Some state → (edges : List (ℕ × State)) → Edges at state edges → All (Lands f table) edges
+
+-- a solution of the function's equations
+abbrev pub Solves : Context → List PointState → Type 0
+Solves f = SolvesBy f (Post f)
+
+-- a solution where jumps through registers go from the first to the second points of pairs
+abbrev pub SolvesWith : Context → List (ℕ × ℕ) → List PointState → Type 0
+SolvesWith f pairs = SolvesBy f (PostWith f pairs)
 
 -- each state of `low` lands in `high`
-abbrev pub IsLower : List PointState → List PointState → Type 0
-IsLower low high = (at : ℕ) (state : State) → state_of low at ≡ Some state → Lands high (at, state)
+abbrev pub IsLower : Context → List PointState → List PointState → Type 0
+IsLower f low high = (at : ℕ) (state : State) → state_of low at ≡ Some state → Lands f high (at, state)
 
--- a solution that is lower than every solution
-pub record IsLeast (code : List ℕ) (table : List PointState) : Type 0 where
-  pub solution : IsSolution code table
-  pub least : (other : List PointState) → IsSolution code other → IsLower table other
+-- a solution with these pairs that is lower than every such solution
+pub record IsLeastWith (f : Context) (pairs : List (ℕ × ℕ)) (table : List PointState) : Type 0 where
+  pub solution : SolvesWith f pairs table
+  pub least : (other : List PointState) → SolvesWith f pairs other → IsLower f table other

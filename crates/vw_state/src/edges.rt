@@ -1,40 +1,72 @@
-ghost use Rattle.std.specs.Prelude.{◌≡◌, ◌∷◌, [], ◌++◌, ◌↔◌, IsTrue, IfSome, IfNone, OnOk, OnErr};
-ghost use Rattle.vw_state.specs.Checks.{GoesOut};
+ghost use Rattle.std.specs.Prelude.{◌≡◌, ◌∷◌, [], ◌++◌, ◌↔◌, List, IsTrue, IfSome, IfNone, OnOk, OnErr};
+ghost use Rattle.vw_insn.specs.Listed.{IsListed};
+ghost use Rattle.vw_stmt.specs.declared.statement.Flow.{Flow};
+ghost use Rattle.vw_stmt.specs.declared.statement.Stmt.{Stmt};
+ghost use Rattle.vw_lift.specs.Lifted.{flow_of};
+ghost use Rattle.vw_state.specs.Checks.{Leaves};
 ghost use Rattle.vw_state.specs.Code.{code_at, NothingAt, StandsAlone};
-ghost use Rattle.vw_state.specs.Post.{target, inside, edge_to, edges_of, edges_at, Post};
+ghost use Rattle.vw_state.specs.Context.{Context, IsSite};
+ghost use Rattle.vw_state.specs.Post.{relative_point, inside, edge_to, destinations, flow_edges, edges_at, Post};
+ghost use Rattle.vw_state.specs.declared.state.State.{State};
 
 use crate::laws::edges_are_post;
+use crate::site::as_bytes;
 use crate::{Site, State};
 use std::alloc::Global;
 use vw_bits::OutOfMemory;
 use vw_decode::decode;
 use vw_insn::Insn;
 use vw_lattice::Lattice;
+use vw_lift::lift;
 use vw_solver::Edges;
+use vw_stmt::{Flow, Stmt};
 
-/// Appends to `out` the edges that leave a point of a function with a state. NOP and MOV go on to the next
-/// instruction, also where this is the function's end. A direct jump goes to its target, and a direct branch
-/// to its target and then to the next instruction; a target outside the function has no edge. UD2 and RET
-/// have no edge, nor has a point where nothing decodes in the bytes up to the function's end. Where any other
-/// instruction stands at a point, where control goes is not stated yet, and the point has no edges: they tell
-/// nothing of such a function, and a caller has to ask first that none is there. A site whose bytes are not
-/// in the file part of one segment has no code. OutOfMemory where the allocator refuses a request; then `out` is
-/// as it was.
+/// Appends to `out` the edges that leave a point of a function with a state. Control goes on to the next instruction,
+/// also where this is the function's end; from a direct jump to its target, and from a direct branch to its target
+/// and then to the next instruction; a target outside the function has no edge. A call goes on to the next
+/// instruction. UD2 and RET have no edge, nor has a jump through a register, of whose destination no state tells yet,
+/// nor a point where nothing decodes in the bytes up to the function's end. A site whose bytes are not in the file
+/// part of one segment has no code. OutOfMemory where the allocator refuses a request; then `out` is as it was.
 pub fn post(
-    _alloc: Global,
+    alloc: Global,
     site: &Site,
     at: u32,
     state: &State,
     out: &mut Edges<State>,
 ) -> Result<(), OutOfMemory>
-    ensures edges { OnOk result (out.new ≡ out.old ++ edges_at (code_at site.now.image.now site.now.entry site.now.size) at state.now) }
-    ensures post { OnOk result (Post (code_at site.now.image.now site.now.entry site.now.size) at state.now (edges_at (code_at site.now.image.now site.now.entry site.now.size) at state.now)) }
+    ensures edges { (f : Context) → IsSite f site.now
+        → OnOk result (out.new ≡ out.old ++ edges_at f at state.now) }
+    ensures post { (f : Context) → IsSite f site.now
+        → OnOk result (Post f at state.now (edges_at f at state.now)) }
+    ensures err { OnErr result (out.new ≡ out.old) }
+{
+    post_of_code(alloc, site, site.code(), at, state, out)
+}
+
+/// The same, where the function's code is at hand.
+pub fn post_of_code(
+    alloc: Global,
+    site: &Site,
+    code: &[u8],
+    at: u32,
+    state: &State,
+    out: &mut Edges<State>,
+) -> Result<(), OutOfMemory>
+    requires { code.now ≡ code_at site.now.image.now site.now.entry site.now.size }
+    ensures edges { (f : Context) → IsSite f site.now
+        → OnOk result (out.new ≡ out.old ++ edges_at f at state.now) }
+    ensures post { (f : Context) → IsSite f site.now
+        → OnOk result (Post f at state.now (edges_at f at state.now)) }
     ensures err { OnErr result (out.new ≡ out.old) }
 {
     edges_are_post();
-    let code = site.code();
+    let code = as_bytes(code);
+    let size = site.size;
     match instruction_at(code, at) {
-        Some((insn, len)) => append_edges(code.len() as u32, at + len, &insn, state, out),
+        Some((insn, len)) => {
+            let flow = flow_of(alloc, &insn);
+            append_edges(size, at + len, flow, state, out)
+        }
         None => Ok(()),
     }
 }
@@ -43,6 +75,7 @@ pub fn post(
 /// none begins there. Takes no memory.
 pub fn instruction_at(code: &[u8], at: u32) -> Option<(Insn, u32)>
     ensures found { IfSome result (λ found. StandsAlone code.now at found.0 found.1) }
+    ensures listed { IfSome result (λ found. IsListed found.0) }
     ensures none { IfNone result (NothingAt code.now at) }
 {
     if code.len() < at as usize {
@@ -52,10 +85,40 @@ pub fn instruction_at(code: &[u8], at: u32) -> Option<(Insn, u32)>
     Some((insn, len as u32))
 }
 
+/// How control goes on after an instruction: the last of its statements, which do not depend on where it stands. `insn`
+/// is one that an opcode row can give. Takes no memory: `alloc` is kept alone.
+pub fn flow_of(alloc: Global, insn: &Insn) -> Flow
+    requires { IsListed insn.now }
+    ensures { result ≡ flow_of insn.now }
+{
+    let stmts = lift(alloc, insn, 0, 0);
+    last_flow(stmts.as_slice())
+}
+
+// The last of some statements, where it is a flow.
+fn last_flow(stmts: &[Stmt]) -> Flow
+    ensures { (before : List Stmt) (flow : Flow) → stmts.now ≡ before ++ Stmt.Flow flow ∷ []
+        → result ≡ flow }
+{
+    match stmts.last() {
+        Some(last) => as_flow(*last),
+        None => Flow::Stop,
+    }
+}
+
+fn as_flow(stmt: Stmt) -> Flow
+    ensures { (flow : Flow) → stmt ≡ Stmt.Flow flow → result ≡ flow }
+{
+    match stmt {
+        Stmt::Flow(flow) => flow,
+        _ => Flow::Stop,
+    }
+}
+
 /// Where a direct jump or branch goes that has `next` behind it, in a function of `size` bytes: `rel` counts
 /// from there. None exactly where that is outside, below 0 or from `size` on. Takes no memory.
 pub fn direct_target(size: u32, next: u32, rel: i32) -> Option<u32>
-    ensures { result ≡ inside size (target next rel) }
+    ensures { result ≡ inside size (relative_point next rel) }
 {
     let to = next as i64 + rel as i64;
     if 0 <= to && to < size as i64 {
@@ -65,45 +128,50 @@ pub fn direct_target(size: u32, next: u32, rel: i32) -> Option<u32>
     }
 }
 
-/// Whether an instruction is a direct jump or branch out of a function of `size` bytes: its target, which counts
-/// from `next`, the point behind the instruction, is below 0 or from `size` on. Each other instruction answers
-/// false, also one of which it is not stated yet where control goes. Takes no memory.
-pub fn leaves_function(size: u32, next: u32, insn: &Insn) -> bool
-    ensures { IsTrue result ↔ GoesOut size next insn.now }
+/// Whether a flow with `next` behind it may leave a function of `size` bytes otherwise than by a return or a call: a
+/// direct jump or branch whose target is outside, or a jump through a register, since no state tells yet that it
+/// stays inside. Takes no memory.
+pub fn leaves_function(size: u32, next: u32, flow: Flow) -> bool
+    ensures { (f : Context) (state : State) → f.size ≡ size
+        → (IsTrue result ↔ Leaves f next state flow) }
 {
-    match insn {
-        Insn::Jump { rel } | Insn::Jcc { rel, .. } => direct_target(size, next, *rel).is_none(),
-        _ => false,
+    match flow {
+        Flow::Jump { rel } => direct_target(size, next, rel).is_none(),
+        Flow::Branch { rel, .. } => direct_target(size, next, rel).is_none(),
+        Flow::JumpReg { .. } => true,
+        Flow::Next | Flow::Call { .. } | Flow::CallReg { .. } | Flow::Ret | Flow::Stop => false,
     }
 }
 
-/// Appends the edges of an instruction.
+// Appends the edges of a flow.
 fn append_edges(
     size: u32,
     next: u32,
-    insn: &Insn,
+    flow: Flow,
     state: &State,
     out: &mut Edges<State>,
 ) -> Result<(), OutOfMemory>
-    ensures ok { OnOk result (out.new ≡ out.old ++ edges_of size next state.now insn.now) }
+    ensures ok { (f : Context) → f.size ≡ size
+        → OnOk result (out.new ≡ out.old ++ flow_edges f (destinations f) next state.now flow) }
     ensures err { OnErr result (out.new ≡ out.old) }
 {
-    match insn {
-        Insn::Nop | Insn::Mov { .. } => append(Some(next), state, out),
-        Insn::Jump { rel } => append(direct_target(size, next, *rel), state, out),
-        Insn::Jcc { rel, .. } => append_branch(direct_target(size, next, *rel), next, state, out),
-        _ => Ok(()),
+    match flow {
+        Flow::Next | Flow::Call { .. } | Flow::CallReg { .. } => append(Some(next), state, out),
+        Flow::Jump { rel } => append(direct_target(size, next, rel), state, out),
+        Flow::Branch { rel, .. } => append_branch(direct_target(size, next, rel), next, state, out),
+        Flow::JumpReg { .. } | Flow::Ret | Flow::Stop => Ok(()),
     }
 }
 
-/// Appends the edges of a branch: the taken one first.
+// Appends the edges of a branch: the taken one first.
 fn append_branch(
     to: Option<u32>,
     next: u32,
     state: &State,
     out: &mut Edges<State>,
 ) -> Result<(), OutOfMemory>
-    ensures ok { OnOk result (out.new ≡ out.old ++ (edge_to to state.now ++ (next, state.now) ∷ [])) }
+    ensures ok { OnOk result
+        (out.new ≡ out.old ++ (edge_to to state.now ++ (next, state.now) ∷ [])) }
     ensures err { OnErr result (out.new ≡ out.old) }
 {
     let before = out.as_slice().len();
@@ -115,7 +183,7 @@ fn append_branch(
     second
 }
 
-/// Appends an edge to a target, where there is one.
+// Appends an edge to a target, where there is one.
 fn append(to: Option<u32>, state: &State, out: &mut Edges<State>) -> Result<(), OutOfMemory>
     ensures ok { OnOk result (out.new ≡ out.old ++ edge_to to state.now) }
     ensures err { OnErr result (out.new ≡ out.old) }

@@ -4,12 +4,18 @@
 
 mod edges;
 mod laws;
+mod memory;
+mod operand;
 mod site;
 mod state;
 mod tables;
 
-pub use edges::{direct_target, instruction_at, leaves_function, post};
-pub use laws::edges_are_post;
+pub use edges::{direct_target, flow_of, instruction_at, leaves_function, post, post_of_code};
+pub use laws::{
+    code_has_its_size, code_is_short, edges_are_post, edges_rise, least_tables_are_one, one_round,
+};
+pub use memory::Address;
+pub use operand::address;
 pub use site::Site;
 pub use state::{Bounds, State, entry_state};
 pub use tables::{FunctionTable, Place, PointState, Tables, Verdict};

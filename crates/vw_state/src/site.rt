@@ -32,7 +32,7 @@ impl<'a> Site<'a> {
 }
 
 // The same bytes, each below 256.
-fn as_bytes(bytes: &[u8]) -> &[u8]
+pub(crate) fn as_bytes(bytes: &[u8]) -> &[u8]
     ensures same { result.now ≡ bytes.now }
     ensures bytes { IsBytes result.now }
 {

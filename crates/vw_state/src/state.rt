@@ -1,6 +1,6 @@
 ghost use Rattle.std.specs.Prelude.{◌≡◌, ⊤, IfOk};
 ghost use Rattle.std.proofs.Common.{rules};
-ghost use Rattle.vw_state.specs.State.{IsBelow, entry};
+ghost use Rattle.vw_state.specs.State.{IsBelow, entry_state};
 
 use std::alloc::Global;
 use vw_bits::OutOfMemory;
@@ -48,7 +48,7 @@ impl Lattice for State {
 
 /// The state at a function's entry. OutOfMemory where the allocator refuses a request.
 pub fn entry_state(_alloc: Global) -> Result<State, OutOfMemory>
-    ensures { IfOk result (λ state. state ≡ entry) }
+    ensures { IfOk result (λ state. state ≡ entry_state) }
 {
     Ok(State {})
 }

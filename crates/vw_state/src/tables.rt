@@ -39,11 +39,7 @@ pub struct Place {
 /// What the analysis answers of a module.
 #[derive(Debug, Drop)]
 pub enum Verdict {
-    /// Every function is safe: the least tables. This tells something only of functions at whose table's points
-    /// NOP, MOV, UD2, RET, direct JMP and Jcc stand and nothing else: the meaning of the other instructions is
-    /// not stated yet, so each of them has no edges and fails no check. Of a MOV it tells only that it is not one
-    /// of 32 bits between EAX and memory below RDI. A caller has to ask first that nothing else stands there. The
-    /// program does so: of such a file it answers that it does not judge it.
+    /// Every function is safe: the least tables.
     Safe(Tables),
     /// Some function is not: the place where a check fails.
     Unsafe(Place),

@@ -30,7 +30,7 @@ const FILE: [Patch; 12] = [
 /// the targets of its edges.
 type Case = (u64, u32, u32, &'static [u32]);
 
-const CASES: [Case; 24] = [
+const CASES: [Case; 26] = [
     // nop, and behind its end
     (0x90, 1, 0, &[1]),
     (0x90, 1, 1, &[]),
@@ -57,9 +57,12 @@ const CASES: [Case; 24] = [
     (0xc3_0174, 3, 0, &[2]),
     (0xc3_0074, 3, 0, &[2, 2]),
     (0xffff_fffa_840f, 6, 0, &[0, 6]),
-    // a call, an addition, no instruction
-    (0xe8, 5, 0, &[]),
-    (0xc0_0148, 3, 0, &[]),
+    // calls and an addition go on
+    (0xe8, 5, 0, &[5]),
+    (0xd0ff, 2, 0, &[2]),
+    (0xc0_0148, 3, 0, &[3]),
+    // a jump through a register, no instruction
+    (0xe0ff, 2, 0, &[]),
     (0x06, 1, 0, &[]),
 ];
 
@@ -119,7 +122,7 @@ fn edges_of_instructions(rt: HostRuntime) -> Result<(), Fail> {
             size: *size,
         };
         let state = entry_state(rt.alloc())?;
-        let mut edges: Edges<crate::State> = List::new(rt.alloc());
+        let mut edges: Edges<crate::State> = Edges::new(rt.alloc());
         post(rt.alloc(), &site, *at, &state, &mut edges)?;
         assert!(rt;
             go_to(edges.as_slice(), *targets),

@@ -1,5 +1,5 @@
-pub mod SafeLemmas
-pub mod Points
-pub mod Modules
-pub mod Steps
-pub mod Functions
+mod NoPlace
+mod Points
+mod Modules
+mod Steps
+mod Functions

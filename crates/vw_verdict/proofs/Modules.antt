@@ -5,33 +5,34 @@ use Rattle.std.specs.List.{slice_get}
 use Rattle.std.proofs.lemmas.Bool.Decides.{nat_tests}
 use Rattle.std.proofs.lemmas.List.{take_more, take_all}
 use Rattle.std.proofs.lemmas.Option.{slice_get_within, slice_get-get_or, get_or_from_slice_get}
-use Rattle.vw_image.specs.Image.{Contents}
 use Rattle.vw_layout.specs.declared.functions.Function.{Function}
 use Rattle.vw_layout.specs.declared.layout.Module.{Module}
-use Rattle.vw_state.specs.Solution.{IsLeast}
+use Rattle.vw_state.specs.Context.{Context, context_of}
+use Rattle.vw_state.specs.Rounds.{IsLeast}
 use Rattle.vw_state.specs.declared.tables.FunctionTable.{FunctionTable}
 use Rattle.vw_state.specs.declared.tables.PointState.{PointState}
 use Rattle.vw_state.specs.declared.tables.Place.{Place}
 use Rattle.vw_state.specs.declared.tables.Verdict.TheVariants as verdict
 use Rattle.vw_verdict.specs.declared.function.Finding.TheVariants as finding
-use Rattle.vw_verdict.specs.Safe.{IsSafeTable, HasSafeTable}
+use Rattle.vw_checks.specs.Safe.{IsSafeTable, HasSafeTable}
+use Rattle.vw_checks.specs.Modules.{IsNumbered, TablesOf}
 use Rattle.vw_verdict.specs.Places.{IsPlaceIn}
-use Rattle.vw_verdict.specs.Verdicts.{code_in, IsNumbered, TablesOf, Judged}
+use Rattle.vw_verdict.specs.Verdicts.{IsVerdict}
 use Rattle.vw_verdict.specs.Findings.{Found}
-use Rattle.vw_verdict.proofs.SafeLemmas.{IsMonotone, no_place}
+use Rattle.vw_verdict.proofs.NoPlace.{LeastIsSafe, StopsAreChecks, no_place}
 
-tables_more : (Holds : List ℕ → List PointState → Type 0) (image : Contents) (functions : List Function) (tables : List FunctionTable) (f : Function) (t : FunctionTable)
-    → TablesOf Holds image functions tables → t.entry ≡ f.entry → Holds (code_in image f) t.states → TablesOf Holds image (functions ++ f ∷ []) (tables ++ t ∷ [])
-tables_more Holds image [] [] f t so entry holds = (entry, holds, tt)
-tables_more Holds image [] (u ∷ tables) f t so entry holds = absurd so
-tables_more Holds image (g ∷ functions) [] f t so entry holds = absurd so
-tables_more Holds image (g ∷ functions) (u ∷ tables) f t so entry holds = (so.0, so.1, tables_more Holds image functions tables f t so.2 entry holds)
+tables_more : (Holds : Context → List PointState → Type 0) (m : Module) (functions : List Function) (tables : List FunctionTable) (f : Function) (t : FunctionTable)
+    → TablesOf Holds m functions tables → t.entry ≡ f.entry → Holds (context_of m f) t.states → TablesOf Holds m (functions ++ f ∷ []) (tables ++ t ∷ [])
+tables_more Holds m [] [] f t so entry holds = (entry, holds, tt)
+tables_more Holds m [] (u ∷ tables) f t so entry holds = absurd so
+tables_more Holds m (g ∷ functions) [] f t so entry holds = absurd so
+tables_more Holds m (g ∷ functions) (u ∷ tables) f t so entry holds = (so.0, so.1, tables_more Holds m functions tables f t so.2 entry holds)
 
 -- what is known once the functions below a number are found safe
 pub record Passed (m : Module) (n : ℕ) (tables : List FunctionTable) : Type 0 where
-  pub least : TablesOf IsLeast m.image (take n m.functions) tables
-  pub safe : TablesOf IsSafeTable m.image (take n m.functions) tables
-  pub each : (other : ℕ) (g : Function) → other < n → IsNumbered m other g → HasSafeTable (code_in m.image g)
+  pub least : TablesOf IsLeast m (take n m.functions) tables
+  pub safe : TablesOf IsSafeTable m (take n m.functions) tables
+  pub each : (other : ℕ) (g : Function) → other < n → IsNumbered m other g → HasSafeTable (context_of m g)
 
 pub begins : (m : Module) → Passed m 0 []
 begins m = record { least = tt; safe = tt; each = λ other g less. absurd (omega (arith, less)) }
@@ -52,24 +53,24 @@ module _ (m : Module) (n : ℕ) (f : Function) (tables : List FunctionTable) (is
       let inside = slice_get_within m.functions n f is in
       take_more m.functions n f inside ∙ ap (λ (g : Function). take n m.functions ++ g ∷ []) (get_or_from_slice_get m.functions n f f is)
 
-  each_more : HasSafeTable (code_in m.image f) → (other : ℕ) (g : Function) → other < n + 1 → IsNumbered m other g → HasSafeTable (code_in m.image g)
+  each_more : HasSafeTable (context_of m f) → (other : ℕ) (g : Function) → other < n + 1 → IsNumbered m other g → HasSafeTable (context_of m g)
   each_more here other g less is_g =
       elim (below_or_at other n less) [
         | inl same ↦
             let one : f ≡ g = some_is (sym is ∙ (ap (λ (k : ℕ). slice_get m.functions k) (sym same) ∙ is_g)) in
-            subst (λ (h : Function). HasSafeTable (code_in m.image h)) one here
+            subst (λ (h : Function). HasSafeTable (context_of m h)) one here
         | inr before ↦ passed.each other g before is_g
       ]
 
-  pub passed_more : (t : FunctionTable) → Found m.image f (finding.Safe t) → Passed m (n + 1) (tables ++ t ∷ [])
+  pub passed_more : (t : FunctionTable) → Found (context_of m f) (finding.Safe t) → Passed m (n + 1) (tables ++ t ∷ [])
   passed_more t found = record {
-    least = subst (λ (fs : List Function). TablesOf IsLeast m.image fs (tables ++ t ∷ [])) (sym one_more) (tables_more IsLeast m.image (take n m.functions) tables f t passed.least found.0 found.1);
-    safe = subst (λ (fs : List Function). TablesOf IsSafeTable m.image fs (tables ++ t ∷ [])) (sym one_more) (tables_more IsSafeTable m.image (take n m.functions) tables f t passed.safe found.0 found.2);
+    least = subst (λ (fs : List Function). TablesOf IsLeast m fs (tables ++ t ∷ [])) (sym one_more) (tables_more IsLeast m (take n m.functions) tables f t passed.least found.0 found.1);
+    safe = subst (λ (fs : List Function). TablesOf IsSafeTable m fs (tables ++ t ∷ [])) (sym one_more) (tables_more IsSafeTable m (take n m.functions) tables f t passed.safe found.0 found.2);
     each = each_more (record { table = t.states; is_safe = found.2 });
   }
 
-  pub judged_unsafe : IsMonotone → (place : Place) → Found m.image f (finding.Unsafe place) → Judged m (verdict.Unsafe place)
-  judged_unsafe monotone place found = (
+  pub judged_unsafe : LeastIsSafe → StopsAreChecks → (place : Place) → Found (context_of m f) (finding.Unsafe place) → IsVerdict m (verdict.Unsafe place)
+  judged_unsafe law among place found = (
     λ each. fails_here (each n f is),
     record {
       number = n;
@@ -81,17 +82,17 @@ module _ (m : Module) (n : ℕ) (f : Function) (tables : List FunctionTable) (is
     },
   )
     where
-      safe_before : {code : List ℕ} → HasSafeTable code → (at check : ℕ) → IsPlaceIn code at check → ⊥
-      safe_before {code} has at check = no_place monotone code has.table has.is_safe at check
+      safe_before : {g : Context} → HasSafeTable g → (at check : ℕ) → IsPlaceIn g at check → ⊥
+      safe_before {g} has at check = no_place law among g has.table has.is_safe at check
 
-      fails_here : HasSafeTable (code_in m.image f) → ⊥
-      fails_here has = no_place monotone (code_in m.image f) has.table has.is_safe place.at place.check found.1
+      fails_here : HasSafeTable (context_of m f) → ⊥
+      fails_here has = no_place law among (context_of m f) has.table has.is_safe place.at place.check found.1
 
-pub judged_safe : (m : Module) (n : ℕ) (tables : List FunctionTable) → length m.functions ≤ n → Passed m n tables → Judged m (verdict.Safe (record { functions = tables }))
+pub judged_safe : (m : Module) (n : ℕ) (tables : List FunctionTable) → length m.functions ≤ n → Passed m n tables → IsVerdict m (verdict.Safe (record { functions = tables }))
 judged_safe m n tables end passed = (
   λ number f is. passed.each number f (omega (arith, end, slice_get_within m.functions number f is)) is,
-  subst (λ (fs : List Function). TablesOf IsLeast m.image fs tables) (take_all n m.functions end) passed.least,
-  subst (λ (fs : List Function). TablesOf IsSafeTable m.image fs tables) (take_all n m.functions end) passed.safe,
+  subst (λ (fs : List Function). TablesOf IsLeast m fs tables) (take_all n m.functions end) passed.least,
+  subst (λ (fs : List Function). TablesOf IsSafeTable m fs tables) (take_all n m.functions end) passed.safe,
 )
 
 -- the function with a number, of a list

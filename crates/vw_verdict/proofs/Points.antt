@@ -7,9 +7,11 @@ use Rattle.std.proofs.lemmas.Bool.Decides.{nat_tests}
 use Rattle.std.proofs.lemmas.Option.{slice_get_within}
 use Rattle.vw_state.specs.declared.state.State.{State}
 use Rattle.vw_state.specs.declared.tables.PointState.{PointState}
+use Rattle.vw_state.specs.State.{entry_state}
 use Rattle.vw_state.specs.Tables.{state_of, RisesWithin}
+use Rattle.vw_state.specs.Context.{Context}
 use Rattle.vw_checks.specs.Checks.{Fails, Passes, LowestFailing}
-use Rattle.vw_verdict.specs.Safe.{NoneFails}
+use Rattle.vw_checks.specs.Safe.{NoneFails}
 use Rattle.vw_verdict.specs.Places.{FailsFirst}
 
 -- the table's entry with this number
@@ -85,11 +87,11 @@ in_order from last (x ∷ rest) rises (suc j) zero p q less e f = absurd (omega 
 in_order from last (x ∷ rest) rises (suc j) (suc k) p q less e f = in_order (suc x.at) last rest rises.2 j k p q (omega (arith, less)) e f
 
 -- no check fails at the entries below a number
-abbrev pub PassesBelow : List ℕ → List PointState → ℕ → Type 0
-PassesBelow code table n = (k : ℕ) (p : PointState) → k < n → IsAt table k p → Passes code p.at p.state
+abbrev pub PassesBelow : Context → List PointState → ℕ → Type 0
+PassesBelow f table n = (k : ℕ) (p : PointState) → k < n → IsAt table k p → Passes f p.at p.state
 
-pub passes_none : (code : List ℕ) (table : List PointState) → PassesBelow code table 0
-passes_none code table k p less = absurd (omega (arith, less))
+pub passes_none : (f : Context) (table : List PointState) → PassesBelow f table 0
+passes_none f table k p less = absurd (omega (arith, less))
 
 below_or : (k n : ℕ) → (k < n) ⊎ (n ≤ k)
 below_or k n = decide (nat_lt k n) refl
@@ -98,45 +100,45 @@ below_or k n = decide (nat_lt k n) refl
     decide true is = inl (grind (arith, nat_tests, is))
     decide false is = inr (grind (arith, nat_tests, is))
 
-pub passes_more : (code : List ℕ) (table : List PointState) (n : ℕ) (p : PointState) → IsAt table n p → PassesBelow code table n → Passes code p.at p.state → PassesBelow code table (n + 1)
-passes_more code table n p is below here k q less is_q =
+pub passes_more : (f : Context) (table : List PointState) (n : ℕ) (p : PointState) → IsAt table n p → PassesBelow f table n → Passes f p.at p.state → PassesBelow f table (n + 1)
+passes_more f table n p is below here k q less is_q =
     elim (below_or k n) [
       | inl before ↦ below k q before is_q
       | inr above ↦
           let same_k : n ≡ k = omega (arith, less, above) in
           let same : p ≡ q = some_is (sym is ∙ (ap (λ (i : ℕ). slice_get table i) same_k ∙ is_q)) in
-          subst (λ (r : PointState). Passes code r.at r.state) same here
+          subst (λ (r : PointState). Passes f r.at r.state) same here
     ]
 
-pub passes_all : (code : List ℕ) (table : List PointState) (n : ℕ) → length table ≤ n → PassesBelow code table n → NoneFails code table
-passes_all code table n end below at state there =
+pub passes_all : (f : Context) (table : List PointState) (n : ℕ) → length table ≤ n → PassesBelow f table n → NoneFails f table
+passes_all f table n end below at state there =
     let g = gives table at state there in
-    let passes : Passes code g.entry.at g.entry.state = below g.k g.entry (omega (arith, end, slice_get_within table g.k g.entry g.is_at)) g.is_at in
-    let moved : Passes code at g.entry.state = subst (λ (a : ℕ). Passes code a g.entry.state) g.same_point passes in
-    subst (λ (s : State). Passes code at s) g.same_state moved
+    let passes : Passes f g.entry.at g.entry.state = below g.k g.entry (omega (arith, end, slice_get_within table g.k g.entry g.is_at)) g.is_at in
+    let moved : Passes f at g.entry.state = subst (λ (a : ℕ). Passes f a g.entry.state) g.same_point passes in
+    subst (λ (s : State). Passes f at s) g.same_state moved
 
-pub fails_first : (code : List ℕ) (last : ℕ) (table : List PointState) (n : ℕ) (p : PointState) (check : ℕ) → RisesWithin 0 last table → IsAt table n p → PassesBelow code table n
-    → LowestFailing code p.at p.state (Some check) → FailsFirst code table p.at check
-fails_first code last table n p check rises is below failing = record {
+pub fails_first : (f : Context) (last : ℕ) (table : List PointState) (n : ℕ) (p : PointState) (check : ℕ) → RisesWithin 0 last table → IsAt table n p → PassesBelow f table n
+    → LowestFailing f p.at p.state (Some check) → FailsFirst f table p.at check
+fails_first f last table n p check rises is below failing = record {
   state = p.state;
   there = state_there 0 last table rises n p is;
   fails = failing;
   lowest = λ other s there c fails. lowest other s there c fails;
 }
   where
-    lowest : (other : ℕ) (s : State) → state_of table other ≡ Some s → (c : ℕ) → Fails code other s c → p.at ≤ other
+    lowest : (other : ℕ) (s : State) → state_of table other ≡ Some s → (c : ℕ) → Fails f other s c → p.at ≤ other
     lowest other s there c fails =
         let g = gives table other s there in
         elim (below_or g.k n) [
           | inl before ↦
-              let moved : Fails code other g.entry.state c = subst (λ (t : State). Fails code other t c) (sym g.same_state) fails in
-              let here : Fails code g.entry.at g.entry.state c = subst (λ (a : ℕ). Fails code a g.entry.state c) (sym g.same_point) moved in
+              let moved : Fails f other g.entry.state c = subst (λ (t : State). Fails f other t c) (sym g.same_state) fails in
+              let here : Fails f g.entry.at g.entry.state c = subst (λ (a : ℕ). Fails f a g.entry.state c) (sym g.same_point) moved in
               absurd (below g.k g.entry before g.is_at c here)
           | inr after ↦ omega (arith, in_order 0 last table rises n g.k p g.entry after is g.is_at, g.same_point)
         ]
 
 abbrev pub blank : PointState
-blank = record { at = 0; state = record {} }
+blank = record { at = 0; state = entry_state }
 
 -- the entry with a number
 abbrev pub point_at : List PointState → ℕ → PointState

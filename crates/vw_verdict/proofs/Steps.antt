@@ -5,7 +5,7 @@ use Rattle.std.proofs.lemmas.Option.{slice_get_within, get_or_from_slice_get}
 use Rattle.vw_layout.specs.declared.functions.Function.{Function}
 use Rattle.vw_layout.specs.declared.layout.Module.{Module}
 use Rattle.vw_state.specs.declared.tables.FunctionTable.{FunctionTable}
-use Rattle.vw_verdict.specs.Verdicts.{IsNumbered}
+use Rattle.vw_checks.specs.Modules.{IsNumbered}
 use Rattle.vw_verdict.proofs.Modules.{Passed, begins}
 
 -- the steps that a function may count

@@ -1,4 +1,3 @@
-pub mod Safe
 pub mod Places
 pub mod Verdicts
 pub mod Findings

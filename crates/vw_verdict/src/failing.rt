@@ -1,12 +1,13 @@
-ghost use Rattle.std.specs.Prelude.{length, IfOk};
-ghost use Rattle.vw_state.specs.Code.{code_at};
+ghost use Rattle.std.specs.Prelude.{◌≡◌, Contains, IfOk};
+ghost use Rattle.vw_layout.specs.declared.functions.Function.{Function};
+ghost use Rattle.vw_state.specs.Context.{context_of, IsSite};
 ghost use Rattle.vw_state.specs.Tables.{RisesWithin};
 ghost use Rattle.vw_checks.specs.Sites.{IsSiteOf};
 ghost use Rattle.vw_verdict.specs.Findings.{FirstFailing};
 
 use std::alloc::Global;
 use vw_bits::OutOfMemory;
-use vw_checks::check;
+use vw_checks::check_of_code;
 use vw_layout::Module;
 use vw_state::{PointState, Site};
 
@@ -19,11 +20,14 @@ pub fn first_failing(
     states: &[PointState],
 ) -> Result<Option<(u32, u8)>, OutOfMemory>
     requires site { IsSiteOf loaded.now site.now }
-    requires rises { RisesWithin 0 (length (code_at site.now.image.now site.now.entry site.now.size)) states.now }
-    ensures { IfOk result (FirstFailing (code_at site.now.image.now site.now.entry site.now.size) states.now) }
+    requires rises { RisesWithin 0 site.now.size states.now }
+    ensures { (f : Function) → Contains loaded.now.functions f
+        → IsSite (context_of loaded.now f) site.now
+        → IfOk result (FirstFailing (context_of loaded.now f) states.now) }
 {
+    let code = site.code();
     for point in states {
-        if let Some(number) = check(alloc, loaded, site, point.at, &point.state)? {
+        if let Some(number) = check_of_code(alloc, loaded, site, code, point.at, &point.state)? {
             return Ok(Some((point.at, number)));
         }
     }

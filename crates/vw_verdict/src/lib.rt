@@ -4,10 +4,8 @@
 
 mod failing;
 mod function;
-mod laws;
 mod module;
 
-pub use laws::least_table_is_safe;
 pub use module::judge;
 
 #[cfg(test)]

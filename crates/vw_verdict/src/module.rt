@@ -1,12 +1,12 @@
 ghost use Rattle.std.specs.Prelude.{◌+◌, ◌≤◌, sum_by, IfOk};
 ghost use Rattle.vw_layout.specs.Layout.{IsWhole};
-ghost use Rattle.vw_verdict.specs.Verdicts.{Judged};
+ghost use Rattle.vw_verdict.specs.Verdicts.{IsVerdict};
 
 use crate::function::{Finding, judge_function};
 use std::alloc::Global;
 use std::sync::ledger::Ledger;
 use vw_bits::{List, OutOfMemory};
-use vw_checks::lower_states_pass;
+use vw_checks::{least_table_is_safe, stops_are_checks};
 use vw_layout::{Module, functions_ascend};
 use vw_solver::Steps;
 use vw_state::{Tables, Verdict};
@@ -18,23 +18,22 @@ use vw_state::{Tables, Verdict};
 /// each evaluation of a point: for each function at most one more than its size, whatever the answer.
 /// OutOfMemory where the allocator refuses a request; then only the steps have changed.
 ///
-/// The verdict speaks only of modules in which NOP, MOV, UD2, RET, direct JMP and Jcc stand at the points of the
-/// functions' least tables and nothing else. The meaning of the other instructions is not stated yet: each of them has
-/// no edges and fails no check, so a function that uses one can come out safe. Of a MOV only check 4 speaks, and it
-/// knows those of 32 bits between EAX and memory at RDI without an index alone. A caller has to ask first that no
-/// other instruction stands there. The program does so: of such a file it answers that it does not judge it.
+/// No function passes that has an instruction whose meaning is not judged yet: where another than NOP, UD2, RET, direct
+/// JMP, Jcc, and MOV of 32 bits between EAX and memory at RDI without an index stands at a point of the table, a check
+/// fails there.
 pub fn judge<L: Ledger>(
     alloc: Global,
     loaded: &Module,
     steps: &mut Steps<L>,
 ) -> Result<Verdict, OutOfMemory>
     requires { IsWhole loaded.now }
-    ensures judged { IfOk result (Judged loaded.now) }
+    ensures judged { IfOk result (IsVerdict loaded.now) }
     ensures ticks { steps.new ≤ steps.old + sum_by (λ f. f.size + 1) loaded.now.functions }
     ensures counts { steps.old ≤ steps.new }
 {
     functions_ascend();
-    lower_states_pass();
+    least_table_is_safe();
+    stops_are_checks();
     let functions = loaded.functions.as_slice();
     let mut tables = List::new(alloc);
     let mut number = 0;

@@ -1,4 +1,5 @@
+use Rattle.vw_state.specs.Context.{context_of}
 use Rattle.vw_checks.proofs.checks.check.Goals as goal
 
 pub returns : goal.returns
-returns c = c.failing_on.ensures c.args.state.now
+returns c = λ f listed is. c.failing.ensures (context_of c.args.loaded.now f) is

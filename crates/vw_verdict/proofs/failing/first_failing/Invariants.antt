@@ -1,6 +1,8 @@
-use Rattle.vw_state.specs.Code.{code_at}
+use Rattle.std.specs.Prelude.{Contains}
+use Rattle.vw_layout.specs.declared.functions.Function.{Function}
+use Rattle.vw_state.specs.Context.{context_of, IsSite}
 use Rattle.vw_verdict.proofs.Points.{PassesBelow}
 use Rattle.vw_verdict.proofs.failing.first_failing.Given as goal
 
 abbrev pub invariant-loop-point : goal.invariant-loop-point
-invariant-loop-point l = PassesBelow (code_at l.site.image.now l.site.entry l.site.size) l.states l.point-index
+invariant-loop-point l = (f : Function) → Contains l.loaded.functions f → IsSite (context_of l.loaded f) l.site → PassesBelow (context_of l.loaded f) l.states l.point-index

@@ -30,7 +30,7 @@ returns-in-Unsafe-clause-judged g c =
     let m = c.args.loaded.now in
     let f = numbered_at m.functions c.loop-number.number (rw c.as_slice-functions.ensures at c.loop-number-test.true) in
     let found = rw c.in-Unsafe.is at c.in_ok-table.ensures.found in
-    judged_unsafe m c.loop-number.number f.0 c.loop-number.tables f.1 c.loop-number.invariant.passed c.lower_states_pass.ensures.passes c.in-Unsafe.place (found f.0 f.1)
+    judged_unsafe m c.loop-number.number f.0 c.loop-number.tables f.1 c.loop-number.invariant.passed c.least_table_is_safe.ensures.safe c.stops_are_checks.ensures c.in-Unsafe.place (found f.0 f.1)
 
 pub returns-in-Unsafe-clause-ticks : goal.returns-in-Unsafe-clause-ticks
 returns-in-Unsafe-clause-ticks g c =

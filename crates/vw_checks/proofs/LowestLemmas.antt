@@ -1,0 +1,52 @@
+-- The lowest number that fails.
+use Rattle.std.proofs.Common.{◌≡◌, ◌⊎◌, ◌↔◌, inl, inr, ℕ, ◌≤◌, ◌<◌, Bool, true, false, if◌then◌else◌, min, Option, Some, None, refl, sym, ◌∙◌, ap, subst, arith}
+use Rattle.std.specs.Prelude.{nat_le, IsTrue}
+use Rattle.std.proofs.lemmas.Bool.Decides.{nat_tests}
+use Rattle.vw_checks.specs.Checks.{IsLowestOf, lower}
+
+by_order : (a b : ℕ) (is : Bool) → nat_le a b ≡ is → (a ≤ b) ⊎ (b < a)
+by_order a b true e = inl (grind (arith, nat_tests))
+by_order a b false e = inr (grind (arith, nat_tests))
+
+-- of what holds by one of two properties
+pub lower_of : (A B : ℕ → Type 0) (a b : Option ℕ) → IsLowestOf A a → IsLowestOf B b → IsLowestOf (λ (n : ℕ). A n ⊎ B n) (lower a b)
+lower_of A B None None la lb = λ n h. elim h [ inl x ↦ la n x | inr y ↦ lb n y ]
+lower_of A B None (Some b) la lb = (inr lb.0, λ n h. elim h [ inl x ↦ absurd (la n x) | inr y ↦ lb.1 n y ])
+lower_of A B (Some a) None la lb = (inl la.0, λ n h. elim h [ inl x ↦ la.1 n x | inr y ↦ absurd (lb n y) ])
+lower_of A B (Some a) (Some b) la lb = (
+  elim (by_order a b (nat_le a b) refl) [
+    | inl le ↦ let is : a ≡ min a b = omega (arith, le) in subst (λ (n : ℕ). A n ⊎ B n) is (inl la.0)
+    | inr less ↦ let is : b ≡ min a b = omega (arith, less) in subst (λ (n : ℕ). A n ⊎ B n) is (inr lb.0)
+  ],
+  λ n h. elim h [ inl x ↦ let le = la.1 n x in omega (arith, le) | inr y ↦ let le = lb.1 n y in omega (arith, le) ],
+)
+
+pub lower_assoc : (a b c : Option ℕ) → lower (lower a b) c ≡ lower a (lower b c)
+lower_assoc None b c = refl
+lower_assoc (Some a) None c = refl
+lower_assoc (Some a) (Some b) None = refl
+lower_assoc (Some a) (Some b) (Some c) = let e : min (min a b) c ≡ min a (min b c) = omega arith in ap Some e
+
+pub lower_none : (a : Option ℕ) → lower a None ≡ a
+lower_none None = refl
+lower_none (Some a) = refl
+
+pub not_true : {A : Type 0} {b : Bool} → b ≡ false → (A → b ≡ true) → A → ⊥
+not_true is_false gives a = let both : true ≡ false = sym (gives a) ∙ is_false in absurd cc
+
+-- one check, where a test tells whether it fails
+pub one_where : (number : ℕ) (b : Bool) (P : Type 0) → (IsTrue b ↔ P) → IsLowestOf (λ (n : ℕ). (n ≡ number) × P) (if b then Some number else None)
+one_where number true P tells = ((refl, tells.0 refl), λ n h. omega (arith, h.0))
+one_where number false P tells = λ n h. not_true refl tells.1 h.1
+
+-- one check that fails where something does not hold
+pub where_followed : (number : ℕ) (P : Type 0) → P → IsLowestOf (λ (n : ℕ). (n ≡ number) × (P → ⊥)) None
+where_followed number P p = λ n h. h.1 p
+
+pub where_unfollowed : (number : ℕ) (P : Type 0) (b : Bool) → b ≡ false → (P → b ≡ true) → IsLowestOf (λ (n : ℕ). (n ≡ number) × (P → ⊥)) (Some number)
+where_unfollowed number P b is_false tells = ((refl, λ p. not_true is_false tells p), λ n h. omega (arith, h.0))
+
+-- the same of properties that hold of the same numbers
+pub lowest_as : (A B : ℕ → Type 0) (o : Option ℕ) → ((n : ℕ) → A n → B n) → ((n : ℕ) → B n → A n) → IsLowestOf A o → IsLowestOf B o
+lowest_as A B None to from h = λ n b. h n (from n b)
+lowest_as A B (Some a) to from h = (to a h.0, λ n b. h.1 n (from n b))

@@ -1,0 +1,39 @@
+-- What stands at a point decides what fails there.
+use Rattle.std.proofs.Common.{◌≡◌, ◌∙◌, ℕ, ◌+◌, ◌≤◌, List, Option, Some, sym, ap, subst, arith}
+use Rattle.vw_image.specs.Image.{Contents}
+use Rattle.vw_insn.specs.declared.instruction.Insn.{Insn}
+use Rattle.vw_state.specs.declared.site.Site.{Site}
+use Rattle.vw_state.specs.declared.state.State.{State}
+use Rattle.vw_state.specs.Code.{code_at, NothingAt, StandsAlone}
+use Rattle.vw_state.specs.Context.{Context, code_of, IsSite}
+use Rattle.vw_checks.specs.Checks.{InsnFails, Fails, lacks_code, at_insn, IsLowestOf, LowestFailing}
+use Rattle.vw_checks.proofs.LowestLemmas.{lowest_as}
+
+-- the code of a site of a function
+pub site_code : (f : Context) (site : Site) → IsSite f site → code_at site.image.now site.entry site.size ≡ code_of f
+site_code f site is =
+    ap (λ (image : Contents). code_at image site.entry site.size) (sym is.image)
+    ∙ (ap (λ (entry : ℕ). code_at f.image entry site.size) (sym is.entry) ∙ ap (λ (size : ℕ). code_at f.image f.entry size) (sym is.size))
+
+module _ (f : Context) (at : ℕ) (state : State) where
+  -- nothing decodes at the point
+  pub none_stands : NothingAt (code_of f) at → LowestFailing f at state (Some 1)
+  none_stands lacks = (lacks_code lacks, λ number fails. least number fails)
+    where
+      least : (number : ℕ) → Fails f at state number → 1 ≤ number
+      least number (lacks_code _) = omega arith
+      least number (at_insn i len n begins fails) = absurd (lacks i len begins)
+
+  -- this instruction stands at the point, and no other
+  module _ (i : Insn) (len : ℕ) (stands : StandsAlone (code_of f) at i len) where
+    to_point : (n : ℕ) → InsnFails f (at + len) state i n → Fails f at state n
+    to_point n fails = at_insn i len n stands.begins fails
+
+    from_point : (n : ℕ) → Fails f at state n → InsnFails f (at + len) state i n
+    from_point n (lacks_code lacks) = absurd (lacks i len stands.begins)
+    from_point n (at_insn j other m begins fails) =
+        let one = stands.alone j other begins in
+        subst (λ (k : ℕ). InsnFails f (at + k) state i n) one.1 (subst (λ (k : Insn). InsnFails f (at + other) state k n) one.0 fails)
+
+    pub as_point : (o : Option ℕ) → IsLowestOf (InsnFails f (at + len) state i) o → LowestFailing f at state o
+    as_point o lowest = lowest_as (InsnFails f (at + len) state i) (Fails f at state) o to_point from_point lowest

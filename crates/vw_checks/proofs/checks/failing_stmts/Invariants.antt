@@ -1,0 +1,8 @@
+use Rattle.std.proofs.Common.{ℕ, drop, Option}
+use Rattle.vw_state.specs.Context.{Context, IsSite}
+use Rattle.vw_checks.specs.Checks.{IsLowestOf, StmtsFail, lower}
+use Rattle.vw_checks.proofs.checks.failing_stmts.Given as goal
+
+abbrev pub invariant-loop-stmt : goal.invariant-loop-stmt
+invariant-loop-stmt l =
+    (f : Context) → IsSite f l.site → (o : Option ℕ) → IsLowestOf (StmtsFail f l.next l.state (drop l.stmt-index l.stmts)) o → IsLowestOf (StmtsFail f l.next l.state l.stmts) (lower l.lowest o)
