@@ -1,5 +1,5 @@
 -- From the parts of the program to the answer.
-use Rattle.std.proofs.Common.{◌≡◌, ◌≢◌, ℕ, ◌^◌, ◌<◌, false, nat_le, Result, Ok, Err, IfOk, List, [], ◌∷◌, length, get_or, Option, Some, None, IfSome, replicate, refl, sym, ◌∙◌, ap, subst, arith, lit<}
+use Rattle.std.proofs.Common.{◌≡◌, ◌≢◌, ℕ, ◌^◌, ◌<◌, Bool, false, nat_le, Result, Ok, Err, IfOk, List, [], ◌∷◌, length, get_or, Option, Some, None, IfSome, replicate, refl, sym, ◌∙◌, ap, subst, arith, lit<}
 use Rattle.std.proofs.lemmas.Bool.Decides.{nat_tests}
 use Rattle.std.proofs.Math.ListN.{length-replicate}
 use Rattle.vw_bits.specs.HeaderRules.{header_fault, header_rules}
@@ -13,12 +13,13 @@ use Rattle.vw_app.specs.declared.status.Status.{Status}
 use Rattle.vw_app.specs.declared.request.Command.{Command}
 use Rattle.vw_app.specs.declared.request.Command.TheVariants as command
 use Rattle.vw_app.specs.Lines.{malformed_line, unsafe_line, info_text}
-use Rattle.vw_app.specs.Answer.{Reply, answered, Answered, malformed, done, Judged, uncovered, safe, unsafe, Asks, AreTold, Done, word}
-use Rattle.vw_app.specs.Module.{declared_module}
+use Rattle.vw_outside.specs.Shelf.{Rose}
+use Rattle.vw_state.specs.Context.{context_of}
+use Rattle.vw_machine.specs.Module.{declared_module}
+use Rattle.vw_sandbox.specs.Sandboxed.{IsSandboxedFile}
+use Rattle.vw_app.specs.Answer.{Reply, usage, read_fault, answered, Answered, malformed, done, Judged, uncovered, safe, unsafe, Asks, AreTold, ReadFailed, Done, word, IsAccepted, accepted_text}
 use Rattle.vw_app.specs.Covered.{IsCoveredModule, HasAnother}
-use Rattle.vw_app.specs.Sandboxed.{IsSandboxedFile}
-use Rattle.vw_app.proofs.Coverage.{covered_table}
-use Rattle.vw_verdict.specs.Verdicts.{code_in}
+use Rattle.vw_app.proofs.Coverage.{OneLeast, covered_table}
 use Rattle.vw_app.proofs.Places.{one_place}
 
 module _ (words : List (List ℕ)) (told : List ℕ → Option (List ℕ)) (fault : List ℕ → Type 0) (Wrote : List ℕ → Type 0) where
@@ -101,39 +102,57 @@ apart e = absurd cc
 same_some : {A : Type 0} {x y : A} → Some x ≡ Some y → x ≡ y
 same_some e = cc
 
--- some function holds another instruction, or none does
-covered_or_not : {m : Module} → HasAnother m → IsCoveredModule m → ⊥
-covered_or_not {m} has covered =
-    let meets = has.meets in
-    let holds = meets.holds in
-    let table = covered_table (code_in m.image has.function) (covered has.number has.function has.is) meets.table meets.least in
-    holds.another (table meets.at meets.state meets.there holds.instruction holds.len holds.stands)
+module _ (one_least : OneLeast) where
+  -- some function holds another instruction, or none does
+  covered_or_not : {m : Module} → HasAnother m → IsCoveredModule m → ⊥
+  covered_or_not {m} has covered =
+      let meets = has.meets in
+      let holds = meets.holds in
+      let table = covered_table one_least (context_of m has.function) (covered has.number has.function has.is) meets.table meets.least in
+      holds.another (table meets.at meets.state meets.there holds.instruction holds.len holds.stands)
 
-pub judged_once : {m : Module} {status other : ℕ} {text other_text : List ℕ} → Judged m status text → Judged m other other_text → (status ≡ other) × (text ≡ other_text)
-judged_once (uncovered has) (uncovered has') = (refl, refl)
-judged_once (uncovered has) (safe covered each) = absurd (covered_or_not has covered)
-judged_once (uncovered has) (unsafe place fails covered not_each) = absurd (covered_or_not has covered)
-judged_once (safe covered each) (uncovered has) = absurd (covered_or_not has covered)
-judged_once (safe covered each) (safe covered' each') = (refl, refl)
-judged_once (safe covered each) (unsafe place fails covered' not_each) = absurd (not_each each)
-judged_once (unsafe place fails covered not_each) (uncovered has) = absurd (covered_or_not has covered)
-judged_once (unsafe place fails covered not_each) (safe covered' each) = absurd (not_each each)
-judged_once (unsafe place fails covered not_each) (unsafe place' fails' covered' not_each') =
-    let once = one_place fails fails' in
-    (refl, ap (λ (f : Function). unsafe_line f.name place.at place.check) once.0 ∙ (ap (λ (a : ℕ). unsafe_line fails'.function.name a place.check) once.1 ∙ ap (λ (c : ℕ). unsafe_line fails'.function.name place'.at c) once.2))
+  pub judged_once : {m : Module} {status other : ℕ} {text other_text : List ℕ} → Judged m status text → Judged m other other_text → (status ≡ other) × (text ≡ other_text)
+  judged_once (uncovered has) (uncovered has') = (refl, refl)
+  judged_once (uncovered has) (safe covered each) = absurd (covered_or_not has covered)
+  judged_once (uncovered has) (unsafe place fails covered not_each) = absurd (covered_or_not has covered)
+  judged_once (safe covered each) (uncovered has) = absurd (covered_or_not has covered)
+  judged_once (safe covered each) (safe covered' each') = (refl, refl)
+  judged_once (safe covered each) (unsafe place fails covered' not_each) = absurd (not_each each)
+  judged_once (unsafe place fails covered not_each) (uncovered has) = absurd (covered_or_not has covered)
+  judged_once (unsafe place fails covered not_each) (safe covered' each) = absurd (not_each each)
+  judged_once (unsafe place fails covered not_each) (unsafe place' fails' covered' not_each') =
+      let once = one_place one_least fails fails' in
+      (refl, ap (λ (f : Function). unsafe_line f.name place.at place.check) once.0 ∙ (ap (λ (a : ℕ). unsafe_line fails'.function.name a place.check) once.1 ∙ ap (λ (c : ℕ). unsafe_line fails'.function.name place'.at c) once.2))
 
-done_once : (asked : Command) (file : List ℕ) {status other : ℕ} {text other_text : List ℕ} → Done asked file status text → Done asked file other other_text → (status ≡ other) × (text ≡ other_text)
-done_once command.Verify file one two = judged_once one two
-done_once command.Info file one two = (one.0 ∙ sym two.0, one.1 ∙ sym two.1)
+  done_once : (asked : Command) (file : List ℕ) {status other : ℕ} {text other_text : List ℕ} → Done asked file status text → Done asked file other other_text → (status ≡ other) × (text ≡ other_text)
+  done_once command.Verify file one two = judged_once one two
+  done_once command.Info file one two = (one.0 ∙ sym two.0, one.1 ∙ sym two.1)
 
-same_fault : {r r' o o' : ℕ} → ◌≡◌ {A = Option (ℕ × ℕ)} (Some (r, o)) (Some (r', o')) → malformed_line r o ≡ malformed_line r' o'
-same_fault {r} {r'} {o} {o'} e = ap (λ (p : ℕ × ℕ). malformed_line p.0 p.1) (same_some e)
+  same_fault : {r r' o o' : ℕ} → ◌≡◌ {A = Option (ℕ × ℕ)} (Some (r, o)) (Some (r', o')) → malformed_line r o ≡ malformed_line r' o'
+  same_fault {r} {r'} {o} {o'} e = ap (λ (p : ℕ × ℕ). malformed_line p.0 p.1) (same_some e)
 
-pub answers_once : (asked : Command) (file : List ℕ) {status other : ℕ} {text other_text : List ℕ} → Answered asked file status text → Answered asked file other other_text → (status ≡ other) × (text ≡ other_text)
-answers_once asked file (malformed rule offset broken) (malformed rule' offset' broken') = (refl, same_fault (sym broken ∙ broken'))
-answers_once asked file (malformed rule offset broken) (done status text holds found) = absurd (apart (sym holds ∙ broken))
-answers_once asked file (done status text holds found) (malformed rule offset broken) = absurd (apart (sym holds ∙ broken))
-answers_once asked file (done status text holds found) (done status' text' holds' found') = done_once asked file found found'
+  pub answers_once : (asked : Command) (file : List ℕ) {status other : ℕ} {text other_text : List ℕ} → Answered asked file status text → Answered asked file other other_text → (status ≡ other) × (text ≡ other_text)
+  answers_once asked file (malformed rule offset broken) (malformed rule' offset' broken') = (refl, same_fault (sym broken ∙ broken'))
+  answers_once asked file (malformed rule offset broken) (done status text holds found) = absurd (apart (sym holds ∙ broken))
+  answers_once asked file (done status text holds found) (malformed rule offset broken) = absurd (apart (sym holds ∙ broken))
+  answers_once asked file (done status text holds found) (done status' text' holds' found') = done_once asked file found found'
+
+  -- what a command accepts is answered so
+  accepted_answer : (asked : Command) (file : List ℕ) → module_fault file ≡ None → IsAccepted asked file → Answered asked file 0 (accepted_text asked file)
+  accepted_answer command.Verify file is accepted = done 0 (accepted_text command.Verify file) is (safe accepted.0 accepted.1)
+  accepted_answer command.Info file is accepted = done 0 (accepted_text command.Info file) is (refl, refl)
+
+  pub accepted_reply : (words : List (List ℕ)) (told : List ℕ → Option (List ℕ)) (before after : ℕ) (opened : Option (List ℕ)) (failed : Bool) (asked : Command) (name file : List ℕ) (status : ℕ) (text : List ℕ)
+      → Asks words asked name → told name ≡ Some file → (Rose before after → ⊥) → module_fault file ≡ None → IsAccepted asked file
+      → Reply words told (ReadFailed before after opened failed) status text → (status ≡ 0) × (text ≡ accepted_text asked file)
+  accepted_reply words told before after opened failed asked name file status text asks is_told steady is accepted (usage none) = absurd (none asked name asks)
+  accepted_reply words told before after opened failed asked name file status text asks is_told steady is accepted (read_fault other lent asks' fault) = absurd (steady fault.0)
+  accepted_reply words told before after opened failed asked name file status text asks is_told steady is accepted (answered other lent read status' text' asks' are_told answer) =
+      let same = same_request asks' asks in
+      let lent_told : told lent ≡ Some file = ap told same.1 ∙ is_told in
+      let file_is : read ≡ file = subst (λ (t : Option (List ℕ)). AreTold t read) lent_told are_told in
+      let here : Answered asked read status text = subst (λ (c : Command). Answered c read status text) same.0 answer in
+      answers_once asked file (subst (λ (b : List ℕ). Answered asked b status text) file_is here) (accepted_answer asked file is accepted)
 
 IfOk-map : {T E : Type 0} {P Q : T → Type 0} (r : Result T E) → ((x : T) → P x → Q x) → IfOk r P → IfOk r Q
 IfOk-map (Ok x) f holds = f x holds

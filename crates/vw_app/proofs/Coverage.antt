@@ -6,7 +6,6 @@ use Rattle.std.specs.Option.{option_map}
 use Rattle.std.proofs.lemmas.Bool.Decides.{nat_tests}
 use Rattle.std.proofs.lemmas.Option.{slice_get_within, slice_get-get_or, get_or_from_slice_get}
 use Rattle.vw_insn.specs.declared.instruction.Insn.{Insn}
-use Rattle.vw_image.specs.Image.{Contents}
 use Rattle.vw_layout.specs.declared.functions.Function.{Function}
 use Rattle.vw_layout.specs.declared.layout.Module.{Module}
 use Rattle.vw_layout.specs.Layout.{IsModule, IsWhole, declared_functions}
@@ -14,13 +13,17 @@ use Rattle.vw_state.specs.declared.state.State.{State}
 use Rattle.vw_state.specs.declared.tables.FunctionTable.{FunctionTable}
 use Rattle.vw_state.specs.declared.tables.PointState.{PointState}
 use Rattle.vw_state.specs.Code.{StandsAlone, code_at}
-use Rattle.vw_state.specs.Solution.{IsLeast}
+use Rattle.vw_state.specs.Context.{Context, code_of, context_of}
+use Rattle.vw_state.specs.Checks.{StopsAt}
+use Rattle.vw_state.specs.Rounds.{IsRound, IsStable, IsLeast}
 use Rattle.vw_state.specs.Tables.{state_of}
-use Rattle.vw_graph.specs.declared.ends.Rounds.{Rounds}
-use Rattle.vw_graph.specs.Rounds.{IsRounds, last_table}
-use Rattle.vw_verdict.specs.Verdicts.{TablesOf, IsNumbered, code_in}
-use Rattle.vw_app.specs.Module.{declared_module}
-use Rattle.vw_app.specs.Covered.{IsCovered, IsCoveredPoint, IsCoveredTable, IsCoveredCode, MeetsAnother, IsCoveredModule, AreCoveredPoints, HoldsAnotherAmong}
+use Rattle.vw_checks.specs.Covered.{IsCovered}
+use Rattle.vw_checks.specs.Modules.{IsNumbered}
+use Rattle.vw_graph.specs.declared.all_rounds.Rounds.{Rounds}
+use Rattle.vw_graph.specs.declared.all_rounds.Rounds.TheVariants.{Stable, Stopped}
+use Rattle.vw_graph.specs.Rounds.{EndsAs, IsRounds, last_table}
+use Rattle.vw_machine.specs.Module.{declared_module}
+use Rattle.vw_app.specs.Covered.{IsCoveredPoint, IsCoveredTable, IsCoveredFunction, MeetsAnother, IsCoveredModule, AreCoveredPoints, HoldsAnotherAmong}
 
 some_is : {A : Type 0} {x y : A} → Some x ≡ Some y → x ≡ y
 some_is e = cc
@@ -67,28 +70,44 @@ has_state (p ∷ rest) zero entry is =
     (here.0, subst (λ (a : ℕ). state_of (p ∷ rest) a ≡ Some here.0) same here.1)
 has_state (p ∷ rest) (suc place) entry is = given_step p rest entry.at (has_state rest place entry is) (p.at == entry.at) refl
 
--- where each point that stands in the least table is covered, the code is
-pub covered_code : (code : List ℕ) (table : List PointState) → IsLeast code table → AreCoveredPoints code table → IsCoveredCode code
-covered_code code table least points = record {
+-- A function has one least table.
+abbrev pub OneLeast : Type 0
+OneLeast = (f : Context) (table other : List PointState) → IsLeast f table → IsLeast f other → table ≡ other
+
+-- where each point that stands in the least table is covered, the function is
+pub covered_function_by : (f : Context) (table : List PointState) → IsLeast f table → AreCoveredPoints (code_of f) table → IsCoveredFunction f
+covered_function_by f table least points = record {
   table = table;
   least = least;
-  covered = λ at state there. let g = gives table at state there in subst (λ (a : ℕ). IsCoveredPoint code a) g.same (points g.place g.entry g.is);
+  covered = λ at state there. let g = gives table at state there in subst (λ (a : ℕ). IsCoveredPoint (code_of f) a) g.same (points g.place g.entry g.is);
 }
 
 -- the points of one least table are those of another
-pub covered_table : (code : List ℕ) → IsCoveredCode code → (table : List PointState) → IsLeast code table → IsCoveredTable code table
-covered_table code code_covered table least at state there =
-    let lands = least.least code_covered.table code_covered.least.solution at state there in
-    code_covered.covered at lands.cover lands.there
+pub covered_table : OneLeast → (f : Context) → IsCoveredFunction f → (table : List PointState) → IsLeast f table → IsCoveredTable (code_of f) table
+covered_table one f covered table least = subst (λ (t : List PointState). IsCoveredTable (code_of f) t) (one f covered.table table covered.least least) covered.covered
 
-pub meets_another : (code : List ℕ) (table : List PointState) → IsLeast code table → HoldsAnotherAmong code table → MeetsAnother code
-meets_another code table least among =
+pub meets_another : (f : Context) (table : List PointState) → IsLeast f table → HoldsAnotherAmong (code_of f) table → MeetsAnother f
+meets_another f table least among =
     let known = has_state table among.place among.entry among.is in
     record { table = table; least = least; at = among.entry.at; state = known.0; there = known.1; holds = among.holds }
 
+-- the table of the last round is the least
+pub least_stops : {f : Context} {number at check : ℕ} {pairs : List (ℕ × ℕ)} {table : List PointState} → IsRound f number pairs table → StopsAt f table at check → IsLeast f table
+least_stops {f} {number} {at} {check} {pairs} {table} round stop = record { pairs = pairs; last = record { number = number; round = round; ends = inl (record { at = at; check = check; stops = stop }) } }
+
+pub least_stable : {f : Context} {number : ℕ} {pairs : List (ℕ × ℕ)} {table : List PointState} → IsRound f number pairs table → IsStable f pairs table → IsLeast f table
+least_stable {f} {number} {pairs} {table} round stable = record { pairs = pairs; last = record { number = number; round = round; ends = inr stable } }
+
+least_by : (f : Context) (ends : Rounds) (number : ℕ) (pairs : List (ℕ × ℕ)) → IsRound f number pairs (last_table ends).states → EndsAs f pairs ends → IsLeast f (last_table ends).states
+least_by f (Stable table) number pairs round stable = least_stable round stable
+least_by f (Stopped table at check) number pairs round stop = least_stops round stop
+
+pub least_of : (f : Context) (ends : Rounds) → IsRounds f ends → IsLeast f (last_table ends).states
+least_of f ends rounds = least_by f ends rounds.number rounds.pairs rounds.round rounds.ends
+
 -- the functions below a number are covered
 abbrev pub CoveredBelow : Module → ℕ → Type 0
-CoveredBelow m n = (number : ℕ) (f : Function) → number < n → IsNumbered m number f → IsCoveredCode (code_in m.image f)
+CoveredBelow m n = (number : ℕ) (f : Function) → number < n → IsNumbered m number f → IsCoveredFunction (context_of m f)
 
 pub covered_none : (m : Module) → CoveredBelow m 0
 covered_none m number f less = absurd (omega (arith, less))
@@ -100,7 +119,7 @@ below_or_at k n less = decide (nat_lt k n) refl
     decide true is = inr (grind (arith, nat_tests, is))
     decide false is = inl (grind (arith, nat_tests, is, less))
 
-pub covered_more : (m : Module) (n : ℕ) → CoveredBelow m n → ((f : Function) → IsNumbered m n f → IsCoveredCode (code_in m.image f)) → CoveredBelow m (n + 1)
+pub covered_more : (m : Module) (n : ℕ) → CoveredBelow m n → ((f : Function) → IsNumbered m n f → IsCoveredFunction (context_of m f)) → CoveredBelow m (n + 1)
 covered_more m n below here number f less is =
     elim (below_or_at number n less) [
       | inl same ↦ here f (subst (λ (k : ℕ). IsNumbered m k f) same is)
@@ -129,15 +148,6 @@ points_more code table n p is_p below here place q less is =
 pub points_all : (code : List ℕ) (table : List PointState) (n : ℕ) → length table ≤ n → PointsBelow code table n → AreCoveredPoints code table
 points_all code table n end below place p is = below place p (omega (arith, end, slice_get_within table place p is)) is
 
--- least tables of functions that are covered
-pub covered_tables : (image : Contents) (functions : List Function) (tables : List FunctionTable) → TablesOf IsLeast image functions tables
-    → ((number : ℕ) (f : Function) → slice_get functions number ≡ Some f → IsCoveredCode (code_in image f)) → TablesOf IsCoveredTable image functions tables
-covered_tables image [] [] least covered = tt
-covered_tables image [] (t ∷ tables) least covered = absurd least
-covered_tables image (f ∷ functions) [] least covered = absurd least
-covered_tables image (f ∷ functions) (t ∷ tables) least covered =
-    (least.0, covered_table (code_in image f) (covered 0 f refl) t.states least.1, covered_tables image functions tables least.2 (λ number g is. covered (suc number) g is))
-
 -- a module that was read is the one that its file gives
 pub declared_is : (m : Module) → IsWhole m → declared_module m.image.bytes ≡ m
 declared_is m whole = rw (sym whole.functions, sym whole.tables, sym whole.image) refl
@@ -158,19 +168,19 @@ pub read_is : (functions lent : List Function) (n : ℕ) (read f : Function) →
 read_is functions lent n read f same is is_f =
     is ∙ (ap (λ (fs : List Function). get_or fs n read) same ∙ get_or_from_slice_get functions n f read is_f)
 
-module _ (image : Contents) (read f : Function) (ends : Rounds) (table : FunctionTable) (code : List ℕ) (states : List PointState) (same : read ≡ f) (is_last : table ≡ last_table ends)
-    (is_code : code ≡ code_at image read.entry read.size) (are_states : states ≡ table.states) (is_rounds : IsRounds image f.entry f.size ends) where
-  code_is : code ≡ code_in image f
-  code_is = is_code ∙ ap (λ (g : Function). code_at image g.entry g.size) same
+module _ (m : Module) (read f : Function) (ends : Rounds) (table : FunctionTable) (code : List ℕ) (states : List PointState) (same : read ≡ f) (is_last : table ≡ last_table ends)
+    (is_code : code ≡ code_at m.image read.entry read.size) (are_states : states ≡ table.states) (is_rounds : IsRounds (context_of m f) ends) where
+  code_is : code ≡ code_of (context_of m f)
+  code_is = is_code ∙ ap (λ (g : Function). code_at m.image g.entry g.size) same
 
-  least : IsLeast (code_in image f) states
-  least = subst (λ (ps : List PointState). IsLeast (code_in image f) ps) (sym (are_states ∙ ap (λ (t : FunctionTable). t.states) is_last)) is_rounds.least
+  least : IsLeast (context_of m f) states
+  least = subst (λ (ps : List PointState). IsLeast (context_of m f) ps) (sym (are_states ∙ ap (λ (t : FunctionTable). t.states) is_last)) (least_of (context_of m f) ends is_rounds)
 
-  pub covered_function : AreCoveredPoints code states → IsCoveredCode (code_in image f)
-  covered_function points = covered_code (code_in image f) states least (subst (λ (c : List ℕ). AreCoveredPoints c states) code_is points)
+  pub covered_function : AreCoveredPoints code states → IsCoveredFunction (context_of m f)
+  covered_function points = covered_function_by (context_of m f) states least (subst (λ (c : List ℕ). AreCoveredPoints c states) code_is points)
 
-  pub another_function : HoldsAnotherAmong code states → MeetsAnother (code_in image f)
-  another_function among = meets_another (code_in image f) states least (subst (λ (c : List ℕ). HoldsAnotherAmong c states) code_is among)
+  pub another_function : HoldsAnotherAmong code states → MeetsAnother (context_of m f)
+  another_function among = meets_another (context_of m f) states least (subst (λ (c : List ℕ). HoldsAnotherAmong c states) code_is among)
 
 -- the function with a number, of a list
 pub numbered_at : (functions : List Function) (n : ℕ) → n < length functions → (f : Function) × (slice_get functions n ≡ Some f)

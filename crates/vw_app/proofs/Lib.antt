@@ -1,13 +1,8 @@
 pub mod Pieces
-pub mod Spellings
-pub mod Instances
-pub mod Runs
-pub mod Modules
 pub mod Coverage
 pub mod Places
 pub mod Told
 pub mod Names
 pub mod Answers
-pub mod LawLemmas
-pub mod Limits
 pub mod RoundTrips
+pub mod Sample

@@ -8,8 +8,9 @@ use Rattle.vw_app.specs.declared.request.Command.{Command}
 use Rattle.vw_app.specs.declared.request.Command.TheVariants as command
 use Rattle.vw_app.specs.Lines.{usage_line, safe_line, uncovered_line, read_fault_line, malformed_line, unsafe_line, info_text}
 use Rattle.vw_state.specs.declared.tables.Place.{Place}
-use Rattle.vw_verdict.specs.Verdicts.{EachHasSafeTable, IsPlaceOf}
-use Rattle.vw_app.specs.Module.{declared_module}
+use Rattle.vw_checks.specs.Modules.{EachHasSafeTable}
+use Rattle.vw_machine.specs.Module.{declared_module}
+use Rattle.vw_verdict.specs.Verdicts.{IsPlaceOf}
 use Rattle.vw_app.specs.Covered.{IsCoveredModule, HasAnother}
 
 -- the status and the text of the verdict on a module
@@ -38,6 +39,17 @@ Done command.Info = Shown
 pub data Answered (command : Command) (file : List ℕ) : ℕ → List ℕ → Type 0 where
   malformed : (rule offset : ℕ) → module_fault file ≡ Some (rule, offset) → Answered command file 2 (malformed_line rule offset)
   done : (status : ℕ) (text : List ℕ) → module_fault file ≡ None → Done command file status text → Answered command file status text
+
+-- what a command asks of a module, so that its answer has status 0: `verify`, that this version covers it and every
+-- function has a safe table; `info`, nothing
+abbrev pub IsAccepted : Command → List ℕ → Type 0
+IsAccepted command.Verify file = IsCoveredModule (declared_module file) × EachHasSafeTable (declared_module file)
+IsAccepted command.Info file = Unit {0}
+
+-- the text of that answer
+abbrev pub accepted_text : Command → List ℕ → List ℕ
+accepted_text command.Verify file = safe_line (length (declared_functions file))
+accepted_text command.Info file = info_text (declared_functions file) (declared_tables file) (file_imports file)
 
 -- the word of a command
 abbrev pub word : Command → List ℕ

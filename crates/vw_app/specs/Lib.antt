@@ -1,9 +1,3 @@
-pub mod World
-pub mod Module
-pub mod Machine
-pub mod Permitted
-pub mod Sandboxed
 pub mod Covered
 pub mod Lines
 pub mod Answer
-pub mod Laws

@@ -1,16 +1,16 @@
-ghost use Rattle.std.specs.Prelude.{◌≡◌, ◌↔◌, ◌<◌, true, false, length, Some, IsTrue, IfOk};
+ghost use Rattle.std.specs.Prelude.{◌≡◌, ◌<◌, true, false, length, Some, IfOk};
 ghost use Rattle.std.specs.List.{slice_get};
 ghost use Rattle.vw_layout.specs.declared.functions.Function.{Function};
 ghost use Rattle.vw_layout.specs.Layout.{IsWhole};
 ghost use Rattle.vw_graph.specs.Rounds.{last_table};
-ghost use Rattle.vw_verdict.specs.Verdicts.{code_in};
-ghost use Rattle.vw_app.specs.Covered.{IsCovered, IsMove, IsAtRdi, IsSigned32, IsCoveredPoint, HoldsAnother, AreCoveredPoints, HoldsAnotherAmong, IsCoveredCode, MeetsAnother, IsCoveredModule, HasAnother};
+ghost use Rattle.vw_state.specs.Context.{context_of};
+ghost use Rattle.vw_app.specs.Covered.{IsCoveredPoint, HoldsAnother, AreCoveredPoints, HoldsAnotherAmong, IsCoveredFunction, MeetsAnother, IsCoveredModule, HasAnother};
 
 use std::alloc::Global;
 use std::sync::ledger::Ledger;
 use vw_bits::OutOfMemory;
+use vw_checks::is_covered;
 use vw_graph::{Rounds, rounds};
-use vw_insn::{Base, Insn, Mem, Place, Reg, Source, Width};
 use vw_layout::{Module, functions_ascend};
 use vw_solver::Steps;
 use vw_state::{FunctionTable, PointState, Site, instruction_at};
@@ -38,8 +38,8 @@ pub fn is_covered_module<L: Ledger>(
     Ok(true)
 }
 
-/// Whether each instruction at a point of the least table of a function, given by its number, is one that this
-/// version covers.
+// Whether each instruction at a point of the least table of a function, given by its number, is one that this
+// version covers.
 fn is_covered_function<L: Ledger>(
     alloc: Global,
     loaded: &Module,
@@ -48,8 +48,10 @@ fn is_covered_function<L: Ledger>(
 ) -> Result<bool, OutOfMemory>
     requires whole { IsWhole loaded.now }
     requires declared { number < length loaded.now.functions }
-    ensures yes { IfOk result (λ all. (f : Function) → slice_get loaded.now.functions number ≡ Some f → all ≡ true → IsCoveredCode (code_in loaded.now.image f)) }
-    ensures no { IfOk result (λ all. (f : Function) → slice_get loaded.now.functions number ≡ Some f → all ≡ false → MeetsAnother (code_in loaded.now.image f)) }
+    ensures yes { IfOk result (λ all. (f : Function)
+        → slice_get loaded.now.functions number ≡ Some f → all ≡ true → IsCoveredFunction (context_of loaded.now f)) }
+    ensures no { IfOk result (λ all. (f : Function)
+        → slice_get loaded.now.functions number ≡ Some f → all ≡ false → MeetsAnother (context_of loaded.now f)) }
 {
     let table = last_table(rounds(alloc, loaded, number, steps)?);
     let function = &loaded.functions.as_slice()[number as usize];
@@ -61,7 +63,7 @@ fn is_covered_function<L: Ledger>(
     Ok(are_covered(site.code(), table.states.as_slice()))
 }
 
-/// The table of the last round.
+// The table of the last round.
 fn last_table(rounds: Rounds) -> FunctionTable
     ensures { result ≡ last_table rounds }
 {
@@ -71,7 +73,7 @@ fn last_table(rounds: Rounds) -> FunctionTable
     }
 }
 
-/// Whether each instruction at these points of the code is one that this version covers.
+// Whether each instruction at these points of the code is one that this version covers.
 fn are_covered(code: &[u8], states: &[PointState]) -> bool
     ensures yes { result ≡ true → AreCoveredPoints code.now states.now }
     ensures no { result ≡ false → HoldsAnotherAmong code.now states.now }
@@ -84,7 +86,7 @@ fn are_covered(code: &[u8], states: &[PointState]) -> bool
     true
 }
 
-/// Whether no instruction begins at the point, or one that this version covers.
+// Whether no instruction begins at the point, or one that this version covers.
 fn is_covered_at(code: &[u8], at: u32) -> bool
     ensures yes { result ≡ true → IsCoveredPoint code.now at }
     ensures no { result ≡ false → HoldsAnother code.now at }
@@ -93,47 +95,4 @@ fn is_covered_at(code: &[u8], at: u32) -> bool
         Some((insn, _)) => is_covered(&insn),
         None => true,
     }
-}
-
-/// Whether this version covers the instruction: NOP, UD2, RET, direct JMP, Jcc, and MOV of 32 bits between EAX
-/// and memory at RDI without an index.
-fn is_covered(insn: &Insn) -> bool
-    ensures { IsTrue result ↔ IsCovered insn.now }
-{
-    match insn {
-        Insn::Nop | Insn::Ud2 | Insn::Ret | Insn::Jump { .. } | Insn::Jcc { .. } => true,
-        Insn::Mov { w, dst, src } => *w == Width::W32 && is_move(dst, src),
-        _ => false,
-    }
-}
-
-/// Whether one operand is EAX and the other memory at RDI without an index.
-fn is_move(dst: &Place, src: &Source) -> bool
-    ensures { IsTrue result ↔ IsMove dst.now src.now }
-{
-    match src {
-        Source::Place(src) => is_eax(dst) && is_at_rdi(src) || is_at_rdi(dst) && is_eax(src),
-        Source::Imm(_) => false,
-    }
-}
-
-fn is_eax(place: &Place) -> bool
-    ensures { IsTrue result ↔ (place.now ≡ Place.Reg Reg.Rax) }
-{
-    matches!(place, Place::Reg(Reg::Rax))
-}
-
-fn is_at_rdi(place: &Place) -> bool
-    ensures { IsTrue result ↔ IsAtRdi place.now }
-{
-    match place {
-        Place::Mem(mem) => mem.index.is_none() && is_base_rdi(*mem),
-        Place::Reg(_) | Place::High(_) => false,
-    }
-}
-
-fn is_base_rdi(mem: Mem) -> bool
-    ensures { IsTrue result ↔ ((mem.base ≡ Base.Reg Reg.Rdi) × IsSigned32 mem.disp) }
-{
-    matches!(mem.base, Base::Reg(Reg::Rdi))
 }

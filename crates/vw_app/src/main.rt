@@ -44,3 +44,5 @@ mod rule_tests;
 mod smallest;
 #[cfg(test)]
 mod tests;
+#[cfg(test)]
+mod whole_tests;

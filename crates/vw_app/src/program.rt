@@ -1,8 +1,8 @@
 ghost use Rattle.std.specs.Prelude.{◌≡◌, ◌≢◌, ℕ, List, map, string_bytes, IfOk};
 ghost use Rattle.vw_outside.specs.Shelf.{Rose};
 ghost use Rattle.vw_outside.specs.Sink.{Appended, AppendedFront};
+ghost use Rattle.vw_sandbox.specs.Sandboxed.{IsSandboxedFile};
 ghost use Rattle.vw_app.specs.Answer.{Answered, AreTold, Asks, Reply, ReadFailed};
-ghost use Rattle.vw_app.specs.Sandboxed.{IsSandboxedFile};
 
 use crate::info::info_text;
 use crate::lines::malformed_text;

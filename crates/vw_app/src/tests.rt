@@ -111,11 +111,11 @@ fn verdicts(rt: HostRuntime) -> Result<(), Fail> {
     Ok(())
 }
 
-// 1 MiB of NOP up to a RET, and 500,000 jumps each to the next.
+// 64 KiB of NOP up to a RET, and 32,000 jumps each to the next.
 #[test]
 fn long_functions(rt: HostRuntime) -> Result<(), Fail> {
     let alloc = rt.alloc();
-    for (piece, times) in [([0x90].as_slice(), 1_048_575), (&[0xEB, 0x00], 500_000)] {
+    for (piece, times) in [([0x90].as_slice(), 65_535), (&[0xEB, 0x00], 32_000)] {
         let mut code = Vec::new(alloc);
         for _ in 0..times {
             code.extend_from_slice(piece)?;
@@ -151,7 +151,7 @@ fn digit(glyph: u8) -> u8
 }
 
 // Asserts the status and the text of an answer.
-fn expect<F: Shelf>(
+pub fn expect<F: Shelf>(
     rt: &(impl Abort + AllocGlobal),
     words: &[&str],
     shelf: &mut F,
@@ -206,6 +206,20 @@ fn faults(rt: HostRuntime) -> Result<(), Fail> {
     for (name, reads, writes, answer) in cases {
         let mut shelf = shelf(rt.alloc(), name, file.as_slice(), reads)?;
         expect(&rt, &["verify", "-"], &mut shelf, writes, answer)?;
+    }
+    Ok(())
+}
+
+// A file of two pieces: an open, the pieces, and the read that finds its end. Each may fail.
+#[test]
+fn pieces(rt: HostRuntime) -> Result<(), Fail> {
+    let mut file = heap_read(rt.alloc())?;
+    file.resize(65_537, 0)?;
+    let fault = (4, "read fault\n");
+    let safe = (0, "safe, functions 1\n");
+    for (call, answer) in [(2, fault), (3, fault), (4, fault), (5, safe)] {
+        let mut shelf = shelf(rt.alloc(), "-", file.as_slice(), &[call])?;
+        expect(&rt, &["verify", "-"], &mut shelf, &[], answer)?;
     }
     Ok(())
 }

@@ -2,21 +2,22 @@ ghost use Rattle.std.specs.Prelude.{◌≡◌, ◌≢◌, ℕ, ◌<◌, IfOk};
 ghost use Rattle.vw_rows.specs.Numbers.{IsBytes};
 ghost use Rattle.vw_layout.specs.declared.functions.Function.{Function};
 ghost use Rattle.vw_layout.specs.Layout.{IsWhole};
-ghost use Rattle.vw_verdict.specs.Verdicts as verdicts;
+ghost use Rattle.vw_checks.specs.Modules.{IsNumbered};
+ghost use Rattle.vw_sandbox.specs.Sandboxed.{IsSandboxedFile};
+ghost use Rattle.vw_verdict.specs.Verdicts.{IsVerdict, IsPlaceOf};
 ghost use Rattle.vw_app.specs.Answer.{Judged};
-ghost use Rattle.vw_app.specs.Covered.{IsCoveredModule};
 ghost use Rattle.vw_app.specs.Lines.{unsafe_line};
-ghost use Rattle.vw_app.specs.Sandboxed.{IsSandboxedFile};
 
 use crate::covered::is_covered_module;
-use crate::laws::safe_code_is_sandboxed;
 use crate::lines::{safe_text, text_of, unsafe_text};
 use crate::status::Status;
 use std::alloc::Global;
 use std::marker::Brand;
 use std::sync::ledger::{Blank, Ledger};
 use vw_bits::{OutOfMemory, Text};
+use vw_checks::passing_code_is_covered;
 use vw_layout::{Module, functions_ascend};
+use vw_sandbox::safe_code_is_sandboxed;
 use vw_solver::Steps;
 use vw_state::{Place, Verdict};
 use vw_verdict::judge;
@@ -50,38 +51,43 @@ fn verify_from<L: Ledger>(
     ensures no_want { IfOk result (λ reply. reply.0.0 ≢ 6) }
 {
     let mut steps: Steps<L> = Steps::from_blank(blank);
-    if !is_covered_module(alloc, loaded, &mut steps)? {
-        return Ok((Status::NOT_COVERED, text_of(alloc, NOT_COVERED)?));
-    }
-    let verdict = judge(alloc, loaded, &mut steps)?;
-    told(alloc, loaded, &verdict)
-}
-
-/// The status and the line of a verdict on a module that this version covers.
-fn told(alloc: Global, loaded: &Module, verdict: &Verdict) -> Result<(Status, Text), OutOfMemory>
-    requires whole { IsWhole loaded.now }
-    requires covered_module { IsCoveredModule loaded.now }
-    requires verdict { verdicts.Judged loaded.now verdict.now }
-    ensures judged { IfOk result (λ reply. Judged loaded.now reply.0.0 reply.1) }
-    ensures safe { IfOk result (λ reply. reply.0.0 ≡ 0 → IsSandboxedFile loaded.now.image.bytes) }
-    ensures no_fault { IfOk result (λ reply. reply.0.0 ≢ 5) }
-    ensures no_want { IfOk result (λ reply. reply.0.0 ≢ 6) }
-{
     safe_code_is_sandboxed();
+    passing_code_is_covered();
     as_bytes(loaded.image.bytes());
-    match verdict {
+    match judge(alloc, loaded, &mut steps)? {
         Verdict::Safe(_) => {
             let text = safe_text(alloc, loaded.functions.as_slice().len())?;
             Ok((Status::SAFE, text))
         }
-        Verdict::Unsafe(place) => Ok((Status::UNSAFE, place_text(alloc, loaded, *place)?)),
+        Verdict::Unsafe(place) => refuse(alloc, loaded, place, &mut steps),
     }
+}
+
+// The status and the line of a module where a check fails at a place: that this version does not cover the module, or
+// the place. Safe tables have no instruction that it does not cover, so nobody else has to ask for that.
+fn refuse<L: Ledger>(
+    alloc: Global,
+    loaded: &Module,
+    place: Place,
+    steps: &mut Steps<L>,
+) -> Result<(Status, Text), OutOfMemory>
+    requires whole { IsWhole loaded.now }
+    requires verdict { IsVerdict loaded.now (Verdict.Unsafe place) }
+    ensures judged { IfOk result (λ reply. Judged loaded.now reply.0.0 reply.1) }
+    ensures not_safe { IfOk result (λ reply. reply.0.0 ≢ 0) }
+    ensures no_fault { IfOk result (λ reply. reply.0.0 ≢ 5) }
+    ensures no_want { IfOk result (λ reply. reply.0.0 ≢ 6) }
+{
+    if !is_covered_module(alloc, loaded, steps)? {
+        return Ok((Status::NOT_COVERED, text_of(alloc, NOT_COVERED)?));
+    }
+    Ok((Status::UNSAFE, place_text(alloc, loaded, place)?))
 }
 
 /// The line for a place of the module where a check fails.
 fn place_text(alloc: Global, loaded: &Module, place: Place) -> Result<Text, OutOfMemory>
     requires { IsWhole loaded.now }
-    ensures { IfOk result (λ text. (fails : verdicts.IsPlaceOf loaded.now place) → text ≡ unsafe_line fails.function.name place.at place.check) }
+    ensures { IfOk result (λ text. (fails : IsPlaceOf loaded.now place) → text ≡ unsafe_line fails.function.name place.at place.check) }
 {
     unsafe_text(alloc, name_at(loaded, place.entry), place.at, place.check)
 }
@@ -89,7 +95,7 @@ fn place_text(alloc: Global, loaded: &Module, place: Place) -> Result<Text, OutO
 /// The name of the declared function that begins at an address.
 fn name_at<'a>(loaded: &'a Module, entry: u64) -> &'a [u8]
     requires { IsWhole loaded.now }
-    ensures { (number : ℕ) (f : Function) → verdicts.IsNumbered loaded.now number f → entry ≡ f.entry → result.now ≡ f.name }
+    ensures { (number : ℕ) (f : Function) → IsNumbered loaded.now number f → entry ≡ f.entry → result.now ≡ f.name }
 {
     functions_ascend();
     match loaded.function_at(entry) {

@@ -1,0 +1,174 @@
+ghost use Rattle.std.specs.Prelude.{◌≡◌, [], ◌∷◌, Some, None, IfOk};
+ghost use Rattle.vw_make.specs.Bounds.{MeetsBounds};
+
+use crate::tests::expect;
+use std::alloc::Global;
+use std::fs;
+use std::test::Fail;
+use vw_bits::{List, OutOfMemory, Text};
+use vw_make::{Func, Parts, write_module};
+use vw_outside::{FileShelf, NeverFails, ReadError, read_all};
+
+/// `mov eax, [rdi + 0]` with four bytes of displacement, `ret`.
+const READ: [u8; 7] = [0x8B, 0x87, 0, 0, 0, 0, 0xC3];
+/// `mov eax, [rdi + 8]`, `ret`.
+const NEAR_READ: [u8; 4] = [0x8B, 0x47, 8, 0xC3];
+/// `ud2`.
+const STOP: [u8; 2] = [0x0F, 0x0B];
+
+const CONTENT: [u8; 8] = [1, 2, 3, 4, 5, 6, 7, 8];
+
+fn text_of(alloc: Global, bytes: &[u8]) -> Result<Text, OutOfMemory>
+    ensures { IfOk result (λ text. text ≡ bytes.now) }
+{
+    let mut text = Text::new(alloc);
+    text.push(bytes)?;
+    Ok(text)
+}
+
+fn bytes_of(alloc: Global, bytes: &[u8]) -> Result<List<u8>, OutOfMemory>
+    ensures { IfOk result (λ list. list ≡ bytes.now) }
+{
+    Ok(List::from_vec(Vec::from_slice(alloc, bytes)?))
+}
+
+fn list_of<T: Drop>(alloc: Global, first: T) -> Result<List<T>, OutOfMemory>
+    ensures { IfOk result (λ list. list ≡ first ∷ []) }
+{
+    let mut list = List::new(alloc);
+    list.push(first)?;
+    Ok(list)
+}
+
+fn pair_of<T: Drop>(alloc: Global, first: T, second: T) -> Result<List<T>, OutOfMemory>
+    ensures { IfOk result (λ list. list ≡ first ∷ second ∷ []) }
+{
+    let mut list = list_of(alloc, first)?;
+    list.push(second)?;
+    Ok(list)
+}
+
+// A function without fixes.
+fn func_of(alloc: Global, name: &[u8], code: &[u8]) -> Result<Func, OutOfMemory>
+    ensures { IfOk result (λ f. f ≡ record { name = name.now; code = code.now; fixes = [] }) }
+{
+    let name = text_of(alloc, name)?;
+    let code = bytes_of(alloc, code)?;
+    let fixes = List::new(alloc);
+    Ok(Func { name, code, fixes })
+}
+
+fn functions_of(alloc: Global) -> Result<List<Func>, OutOfMemory>
+    ensures { IfOk result (λ fs. fs ≡ record { name = 102 ∷ []; code = READ; fixes = [] }
+        ∷ record { name = 103 ∷ 103 ∷ []; code = NEAR_READ; fixes = [] }
+        ∷ record { name = 104 ∷ []; code = STOP; fixes = [] } ∷ []) }
+{
+    let first = func_of(alloc, b"f", &READ)?;
+    let second = func_of(alloc, b"gg", &NEAR_READ)?;
+    let third = func_of(alloc, b"h", &STOP)?;
+    let mut functions = pair_of(alloc, first, second)?;
+    functions.push(third)?;
+    Ok(functions)
+}
+
+// A table of two entries, the second empty, and one of one entry.
+fn tables_of(alloc: Global) -> Result<List<List<(u64, Option<u32>)>>, OutOfMemory>
+    ensures { IfOk result (λ tables. tables
+        ≡ ((5, Some 1) ∷ (9, None) ∷ []) ∷ ((7, Some 0) ∷ []) ∷ []) }
+{
+    let first = pair_of(alloc, (5, Some(1)), (9, None))?;
+    let second = list_of(alloc, (7, Some(0)))?;
+    pair_of(alloc, first, second)
+}
+
+// Three functions, two imports, two tables, and a word of data that is bound to an import.
+fn parts_of(alloc: Global) -> Result<Parts, OutOfMemory>
+    ensures { IfOk result (λ parts. MeetsBounds parts) }
+{
+    let functions = functions_of(alloc)?;
+    let imports = pair_of(alloc, text_of(alloc, b"a")?, text_of(alloc, b"bc")?)?;
+    let tables = tables_of(alloc)?;
+    let content = bytes_of(alloc, &CONTENT)?;
+    let binds = list_of(alloc, (0, 1))?;
+    Ok(Parts {
+        functions,
+        imports,
+        tables,
+        content,
+        binds,
+    })
+}
+
+/// Worked out from the layout of written modules: the text begins at 480, behind seven relocations, and each
+/// function at a multiple of 16; the tables begin at 4096 + 8 * 2 + 16 * 2.
+const INFORMATION: &str = "functions 3
+0x00000000000001e0 7 f
+0x00000000000001f0 4 gg
+0x0000000000000200 2 h
+tables 2
+0 0x0000000000001030 2
+1 0x0000000000001050 1
+imports 2
+0 a
+1 bc
+";
+
+/// Where the displacement of the second function's read stands, and where the third function begins.
+const DISPLACEMENT: usize = 498;
+
+const THIRD: usize = 512;
+
+// A whole module that was written, what it declares, and verdicts where some of its bytes differ: a read below
+// the heap, PUSH, and both, which is first in the module.
+#[test]
+fn written_modules(rt: HostRuntime) -> Result<(), Fail> {
+    let alloc = rt.alloc();
+    let file = write_module(alloc, &parts_of(alloc)?)?;
+    let mut shelf = NeverFails::new(bytes_of(alloc, file.as_slice())?);
+    expect(&rt, &["info", "m"], &mut shelf, &[], (0, INFORMATION))?;
+    for (displacement, third, status, text) in [
+        (8, 0x0F, 0, "safe, functions 3\n"),
+        (0xF8, 0x0F, 1, "unsafe, gg+0x0, C4 address\n"),
+        (8, 0x55, 8, "not built yet\n"),
+        (0xF8, 0x55, 8, "not built yet\n"),
+    ] {
+        let mut bytes = file.as_slice().to_vec(alloc)?;
+        if let Some(byte) = bytes.get_mut(DISPLACEMENT) {
+            *byte = displacement;
+        }
+        if let Some(byte) = bytes.get_mut(THIRD) {
+            *byte = third;
+        }
+        let mut shelf = NeverFails::new(List::from_vec(bytes));
+        expect(&rt, &["verify", "m"], &mut shelf, &[], (status, text))?;
+    }
+    Ok(())
+}
+
+// Bytes of which none is 0, and of which those that are 65,536 apart differ.
+fn pattern(alloc: Global, count: u32) -> Result<Vec<u8>, Fail> {
+    let mut bytes = Vec::new(alloc);
+    for index in 0..count {
+        bytes.push((index % 251) as u8 + 1)?;
+    }
+    Ok(bytes)
+}
+
+// A file of the system that is read in three pieces, the last of five bytes.
+#[test]
+fn system_files(rt: HostRuntime) -> Result<(), Fail> {
+    let alloc = rt.alloc();
+    let bytes = pattern(alloc, 131_077)?;
+    fs::write(&rt, "pattern", bytes.as_slice())?;
+    let mut shelf = FileShelf::new(&rt);
+    let whole = read_all(alloc, &mut shelf, "pattern", 131_077);
+    let cut = read_all(alloc, &mut shelf, "pattern", 131_076);
+    fs::remove_file(&rt, "pattern")?;
+    let same = match &whole {
+        Ok(read) => read.as_slice() == bytes.as_slice(),
+        Err(_) => false,
+    };
+    assert!(rt; same);
+    assert_eq!(rt; cut.err(), Some(ReadError::TooLong));
+    Ok(())
+}

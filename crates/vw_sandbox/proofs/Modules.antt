@@ -1,0 +1,219 @@
+-- From the rules of a module to the code that its functions hold in every instance.
+use Rattle.std.proofs.Common.{◌≡◌, ℕ, zero, suc, ◌+◌, ◌-◌, ◌≤◌, ◌<◌, ◌&&◌, ◌||◌, Bool, true, false, List, [], ◌∷◌, length, get_or, map, take, drop, Option, Some, None, slice_index, refl, sym, ◌∙◌, ap, subst, arith, lit<}
+use Rattle.std.specs.Prelude.{Contains}
+use Rattle.std.specs.List.{find, list_any}
+use Rattle.std.specs.Option.{option_or}
+use Rattle.std.proofs.lemmas.Bool.{false≢true}
+use Rattle.std.proofs.lemmas.Bool.Decides.{nat_tests}
+use Rattle.vw_bits.specs.Headers.{segments_of, is_executable}
+use Rattle.vw_bits.specs.HeaderRules.{header_fault}
+use Rattle.vw_bits.specs.Places.{is_among, in_file_part, in_memory, file_offset}
+use Rattle.vw_bits.specs.declared.records.Segment.{Segment}
+use Rattle.vw_dynamic.specs.Dynamic.{dynamic_fault}
+use Rattle.vw_image.specs.Image.{Contents, IsImage, image_of, memory_byte, image_byte}
+use Rattle.vw_image.specs.Words.{bytes_at}
+use Rattle.vw_image.specs.Stubs.{in_executable}
+use Rattle.vw_image.specs.Bounds.{IsBounded, AreBounded}
+use Rattle.vw_rows.specs.Numbers.{IsBytes}
+use Rattle.vw_layout.specs.declared.functions.Function.{Function}
+use Rattle.vw_layout.specs.Layout.{module_fault, layout_fault, IsModule, declared_functions}
+use Rattle.vw_layout.specs.Laws.{IsCode}
+use Rattle.vw_layout.specs.declared.layout.Module.{Module as Declared}
+use Rattle.vw_stmt.specs.declared.operands.Var.{Var}
+use Rattle.vw_insn.specs.declared.instruction.Insn.{Insn}
+use Rattle.vw_state.specs.Code.{code_at, BeginsAt}
+use Rattle.vw_state.specs.Context.{Context, code_of, context_of}
+use Rattle.vw_state.specs.Post.{PostBy, edges_by, destinations}
+use Rattle.vw_state.specs.declared.state.State.{State as Known}
+use Rattle.vw_state.specs.declared.tables.FunctionTable.{FunctionTable}
+use Rattle.vw_state.specs.declared.tables.Tables.{Tables}
+use Rattle.vw_checks.specs.Checks.{Passes}
+use Rattle.vw_checks.specs.Covered.{IsCovered}
+use Rattle.vw_checks.specs.Safe.{IsSafeTable}
+use Rattle.vw_checks.specs.Modules.{TablesOf, AreSafe}
+use Rattle.vw_machine.specs.declared.world.World.{World}
+use Rattle.vw_machine.specs.World.{IsLaidOut}
+use Rattle.vw_machine.specs.Module.{Module, declared_module, module_of, segment_range}
+use Rattle.vw_machine.specs.State.{State}
+use Rattle.vw_machine.specs.Entered.{IsInitial}
+use Rattle.vw_sandbox.specs.Runs.{Reaches}
+use Rattle.vw_sandbox.specs.Sandboxed.{IsSandboxed}
+use Rattle.vw_sandbox.proofs.Instances.{all_of}
+use Rattle.vw_sandbox.proofs.Choices.{StandsAlone, IsSafeState}
+use Rattle.vw_sandbox.proofs.Steps.{HoldsCode, safe_runs}
+
+-- what the crates below say of files
+pub record Laws : Type 0 where
+  pub code : (file : List ℕ) (f : Function) → IsModule file → Contains (declared_functions file) f → IsCode file f
+  pub settled : (image : Contents) → IsImage image → (a n : ℕ) → in_executable image.segments a n ≡ true → (base : ℕ) (hosts : ℕ → ℕ) (b : ℕ) → a ≤ b → b < a + n → image_byte image base hosts b ≡ memory_byte image.bytes image.segments b
+  pub lent : (image : Contents) → IsImage image → (a n : ℕ) (bytes : List ℕ) → bytes_at image a n ≡ Some bytes → (k : ℕ) → k < n → slice_index bytes k ≡ memory_byte image.bytes image.segments (a + k)
+  pub bounded : (bytes : List ℕ) → header_fault bytes ≡ None → AreBounded (length bytes) (segments_of bytes)
+  pub sized : (file : List ℕ) (f : Function) → IsModule file → Contains (declared_functions file) f → length (code_at (image_of file) f.entry f.size) ≡ f.size
+
+both_none : {A : Type 0} (a b : Option A) → option_or a b ≡ None → (a ≡ None) × (b ≡ None)
+both_none None b none = (refl, none)
+both_none (Some x) b none = cc
+
+pub headers_hold : (file : List ℕ) → IsModule file → (header_fault file ≡ None) × (dynamic_fault file ≡ None)
+unfolding module_fault
+headers_hold file is =
+    let first = both_none (header_fault file) (option_or (dynamic_fault file) (layout_fault file)) is in
+    (first.0, (both_none (dynamic_fault file) (layout_fault file) first.1).0)
+
+is_image : (file : List ℕ) → IsModule file → IsImage (image_of file)
+unfolding image_of
+is_image file is = record { headers = (headers_hold file is).0; dynamic = (headers_hold file is).1; whole = refl }
+
+Contains-map : {X Y : Type 0} (f : X → Y) (xs : List X) (x : X) → Contains xs x → Contains (map f xs) (f x)
+Contains-map f [] x (k, inside, is) = absurd (omega arith)
+Contains-map f (y ∷ xs) x (zero, inside, is) = (0, omega arith, ap f is)
+Contains-map f (y ∷ xs) x (suc k, inside, is) =
+    let later = Contains-map f xs x (k, omega arith, is) in (suc later.0, omega (arith, later.1), later.2)
+
+or_any : (b : Bool) → (b || true) ≡ true
+or_any true = refl
+or_any false = refl
+
+any_of : {X : Type 0} (p : X → Bool) (xs : List X) (x : X) → Contains xs x → p x ≡ true → list_any p xs ≡ true
+any_of p [] x (k, inside, is) passes = absurd (omega arith)
+any_of p (y ∷ xs) x (zero, inside, is) passes = let here : p y ≡ true = ap p is ∙ passes in rw here refl
+any_of p (y ∷ xs) x (suc k, inside, is) passes = let later = any_of p xs x (k, omega arith, is) passes in rw later (or_any (p y))
+
+-- where one passes, one is found that passes
+abbrev IsFound : {X : Type 0} → (X → Bool) → List X → Type 0
+IsFound {X} p xs = (y : X) × Contains xs y × (p y ≡ true) × (find p xs ≡ Some y)
+
+found_first : {X : Type 0} (p : X → Bool) (y : X) (xs : List X) (passes : Bool) → p y ≡ passes → (passes ≡ false → IsFound p xs) → IsFound p (y ∷ xs)
+found_first p y xs true is later = (y, (0, omega arith, refl), is, rw is refl)
+found_first p y xs false is later =
+    let found = later refl in (found.0, (suc found.1.0, omega (arith, found.1.1), found.1.2), found.2, rw is found.3)
+
+found_of : {X : Type 0} (p : X → Bool) (xs : List X) (x : X) → Contains xs x → p x ≡ true → IsFound p xs
+found_of p [] x (k, inside, is) passes = absurd (omega arith)
+found_of p (y ∷ xs) x (zero, inside, is) passes = found_first p y xs true (ap p is ∙ passes) (λ e. absurd (false≢true (sym e)))
+found_of p (y ∷ xs) x (suc k, inside, is) passes = found_first p y xs (p y) refl (λ e. found_of p xs x (k, omega arith, is) passes)
+
+among : (start size a n : ℕ) → is_among start size a n ≡ true → (start ≤ a) × (a < start + size) × (a + n ≤ start + size)
+among start size a n h = (grind (arith, nat_tests, h), grind (arith, nat_tests, h), grind (arith, nat_tests, h))
+
+among_is : (start size a n : ℕ) → start ≤ a → a < start + size → a + n ≤ start + size → is_among start size a n ≡ true
+among_is start size a n one two three = grind (arith, nat_tests)
+
+both_true : (a b : Bool) → a ≡ true → b ≡ true → a && b ≡ true
+both_true true true one two = refl
+both_true true false one two = two
+both_true false b one two = one
+
+IsBytes-drop : (n : ℕ) (bytes : List ℕ) → IsBytes bytes → IsBytes (drop n bytes)
+IsBytes-drop zero bytes are i = are i
+IsBytes-drop (suc n) [] are i = are i
+IsBytes-drop (suc n) (b ∷ bytes) are i = IsBytes-drop n bytes (λ k. are (suc k)) i
+
+IsBytes-take : (n : ℕ) (bytes : List ℕ) → IsBytes bytes → IsBytes (take n bytes)
+IsBytes-take zero bytes are i = lit< tt
+IsBytes-take (suc n) [] are i = are i
+IsBytes-take (suc n) (b ∷ bytes) are zero = are 0
+IsBytes-take (suc n) (b ∷ bytes) are (suc i) = IsBytes-take n bytes (λ k. are (suc k)) i
+
+module _ (laws : Laws) (file : List ℕ) (is : IsModule file) (f : Function) (listed : Contains (declared_functions file) f) where
+  code : IsCode file f
+  code = laws.code file f is listed
+
+  bounds : (s : Segment) → Contains (segments_of file) s → IsBounded (length file) s
+  bounds s of_file = all_of (IsBounded (length file)) (segments_of file) (laws.bounded file (headers_hold file is).0) s of_file
+
+  -- the segment in whose file part the code is found
+  found : IsFound (in_file_part f.entry f.size) (segments_of file)
+  found = found_of (in_file_part f.entry f.size) (segments_of file) code.segment code.listed code.inside
+
+  place : ℕ
+  place = found.0.offset + (f.entry - found.0.vaddr)
+
+  placed : file_offset (segments_of file) f.entry f.size ≡ Some place
+  unfolding file_offset place
+  placed = rw found.3 refl
+
+  lent_code : bytes_at (image_of file) f.entry f.size ≡ Some (code_at (image_of file) f.entry f.size)
+  unfolding image_of bytes_at code_at
+  lent_code = rw placed refl
+
+  length-code : length (code_at (image_of file) f.entry f.size) ≡ f.size
+  length-code = laws.sized file f is listed
+
+  are_bytes : IsBytes file → IsBytes (code_at (image_of file) f.entry f.size)
+  unfolding image_of bytes_at code_at
+  are_bytes bytes = rw placed (IsBytes-take f.size (drop place file) (IsBytes-drop place file bytes))
+
+  -- the code lies in the memory of its segment
+  in_part : in_memory f.entry f.size code.segment ≡ true
+  in_part =
+      let s = code.segment in
+      let part = among s.vaddr s.filesz f.entry f.size code.inside in
+      let bound = bounds s code.listed in
+      let one = part.0 in
+      let two = part.1 in
+      let three = part.2 in
+      let longer = bound.part in
+      among_is s.vaddr s.memsz f.entry f.size one (omega arith) (omega arith)
+
+  executable : in_executable (segments_of file) f.entry f.size ≡ true
+  executable = any_of (λ s. is_executable s && in_memory f.entry f.size s) (segments_of file) code.segment code.listed (both_true (is_executable code.segment) (in_memory f.entry f.size code.segment) code.is_executed in_part)
+
+  byte_of_code : (w : World) (k : ℕ) → k < length (code_at (image_of file) f.entry f.size) → (module_of file).byte w (f.entry + k) ≡ get_or (code_at (image_of file) f.entry f.size) k 0
+  unfolding module_of image_of
+  byte_of_code w k inside =
+      let few : k < f.size = omega (arith, inside, length-code) in
+      laws.settled (image_of file) (is_image file is) f.entry f.size executable w.load (slice_index w.hosts) (f.entry + k) (omega arith) (omega arith)
+      ∙ sym (laws.lent (image_of file) (is_image file is) f.entry f.size (code_at (image_of file) f.entry f.size) lent_code k few)
+
+  pub holds_code : HoldsCode (module_of file) f (code_at (image_of file) f.entry f.size)
+  unfolding module_of image_of
+  holds_code =
+      let s = code.segment in
+      let part = among s.vaddr s.memsz f.entry f.size in_part in
+      record {
+        listed = listed;
+        sized = sym length-code;
+        some = omega (arith, length-code, code.some);
+        part = segment_range s;
+        of_image = Contains-map segment_range (segments_of file) s code.listed;
+        part_low = part.0;
+        part_high = part.2;
+        byte = byte_of_code;
+      }
+
+-- the table of a function
+table_for : (m : Declared) (functions : List Function) (tables : List FunctionTable) (f : Function) → Contains functions f → TablesOf IsSafeTable m functions tables
+    → (t : FunctionTable) × Contains tables t × (t.entry ≡ f.entry) × IsSafeTable (context_of m f) t.states
+table_for m [] tables f (k, inside, is) safe = absurd (omega arith)
+table_for m (g ∷ functions) [] f (k, inside, is) safe = absurd safe
+table_for m (g ∷ functions) (t ∷ tables) f (zero, inside, is) safe =
+    (t, (0, omega arith, refl), safe.0 ∙ ap (λ (h : Function). h.entry) is, subst (λ (h : Function). IsSafeTable (context_of m h) t.states) is safe.1)
+table_for m (g ∷ functions) (t ∷ tables) f (suc k, inside, is) safe =
+    let later = table_for m functions tables f (k, omega arith, is) safe.2 in
+    (later.0, (suc later.1.0, omega (arith, later.1.1), later.1.2), later.2, later.3)
+
+-- Safe tables keep each run of a module in its sandbox.
+pub safe_module : Laws
+    → ((f : Context) (targets : Var → Known → List ℕ) (at : ℕ) (known : Known) → IsBytes (code_of f) → PostBy f targets at known (edges_by f targets at known))
+    → ((f : Context) (at len : ℕ) (known : Known) (i : Insn) → Passes f at known → BeginsAt (code_of f) at i len → IsCovered i)
+    → ((m : Module) (w : World) → IsLaidOut m.image m.imports w → StandsAlone m w)
+    → (file : List ℕ) (tables : Tables) → IsModule file → IsBytes file → AreSafe (declared_module file) tables → IsSandboxed (module_of file) tables.functions
+unfolding module_of
+safe_module laws posts covers alone file tables is bytes safe =
+    let safe_run : (w : World) → IsLaidOut (module_of file).image (module_of file).imports w → (f : Function) → Contains (module_of file).functions f → (first : State) → IsInitial w f first
+    → (s : State) → Reaches (module_of file) w first s → IsSafeState (module_of file) w tables.functions first.registers s =
+    λ w laid f listed first initial s run.
+    let m = declared_module file in
+    let t = table_for m (declared_functions file) tables.functions f listed safe in
+    safe_runs (module_of file) f (context_of m f) refl (holds_code laws file is f listed) tables.functions t.0 t.1 t.2 t.3
+    (λ at known. posts (context_of m f) (destinations (context_of m f)) at known (are_bytes laws file is f listed bytes))
+    (covers (context_of m f))
+    w laid (alone (module_of file) w laid) first initial s run in
+    record {
+      steps = λ w laid f listed first initial s run. (safe_run w laid f listed first initial s run).steps;
+      permitted = λ w laid f listed first initial s run. (safe_run w laid f listed first initial s run).permitted;
+      keeps_to_tables = λ w laid f listed first initial s run. (safe_run w laid f listed first initial s run).keeps_to_tables;
+      passes_heap = λ w laid f listed first initial s run. (safe_run w laid f listed first initial s run).passes_heap;
+      keeps_registers = λ w laid f listed first initial s run. (safe_run w laid f listed first initial s run).keeps_registers;
+    }

@@ -1,0 +1,67 @@
+-- What it means that a module stays in its sandbox: a statement about every run.
+use Rattle.std.specs.Prelude.{ℕ, List, [], ◌∷◌, Contains}
+use Rattle.vw_insn.specs.Words.{Registers}
+use Rattle.vw_layout.specs.declared.functions.Function.{Function}
+use Rattle.vw_layout.specs.Layout.{IsModule}
+use Rattle.vw_state.specs.declared.tables.FunctionTable.{FunctionTable}
+use Rattle.vw_state.specs.declared.tables.Tables.{Tables}
+use Rattle.vw_checks.specs.Modules.{AreSafe, AreLeast}
+use Rattle.vw_machine.specs.declared.world.World.{World}
+use Rattle.vw_machine.specs.declared.choice.Choice.{Choice}
+use Rattle.vw_machine.specs.World.{IsLaidOut}
+use Rattle.vw_machine.specs.Module.{Module, declared_module, module_of}
+use Rattle.vw_machine.specs.State.{State}
+use Rattle.vw_machine.specs.Standing.{Here, StandsAt}
+use Rattle.vw_machine.specs.Step.{Ending, Went, Returned, Trapped, Stuck, step}
+use Rattle.vw_machine.specs.Permitted.{Permitted}
+use Rattle.vw_machine.specs.Entered.{IsInitial}
+use Rattle.vw_sandbox.specs.Runs.{OfRuns}
+use Rattle.vw_sandbox.specs.Claims.{IsKept, StepKeepsTo, StepPassesHeap, EachEvent, HasStep, IsPermitted, KeepsToTables, PassesHeap, KeepsRegisters}
+
+-- For every load address and instance, every declared function that the host enters, and every number of steps under any
+-- choices: each event is permitted; each transfer inside a function, and each call through a register or memory, keeps to
+-- the tables; each call but that of the function that probes the stack is made with the heap's base in rdi; and a run that
+-- returns does so with rsp 8 above that at its entry and the callee-saved registers as they were. At each state of a run
+-- something is known to stand at rip, or that nothing does, so that each of these tells of some step.
+pub record IsSandboxed (m : Module) (tables : List FunctionTable) : Type 0 where
+  pub steps : OfRuns m (λ w entered s. HasStep m w s)
+  pub permitted : OfRuns m (λ w entered s. IsPermitted m w s)
+  pub keeps_to_tables : OfRuns m (λ w entered s. KeepsToTables m w tables s)
+  pub passes_heap : OfRuns m (λ w entered s. PassesHeap m w s)
+  pub keeps_registers : OfRuns m (λ w entered s. KeepsRegisters m w entered s)
+
+-- The file is a module that stays in its sandbox and keeps to its least tables, which are safe.
+pub record IsSandboxedFile (file : List ℕ) : Type 0 where
+  pub rules : IsModule file
+  pub tables : Tables
+  pub least : AreLeast (declared_module file) tables
+  pub are_safe : AreSafe (declared_module file) tables
+  pub sandboxed : IsSandboxed (module_of file) tables.functions
+
+-- ---- the same by lists of choices
+
+-- how a run goes on after a step, where `Rest` says it of the state that the step leaves
+abbrev pub Onward : Registers → (State → Type 0) → Ending → Type 0
+Onward entered Rest (Went s) = Rest s
+Onward entered Rest (Returned s) = IsKept entered s.registers
+Onward entered Rest Trapped = Unit {0}
+Onward entered Rest Stuck = ⊥
+
+module _ (m : Module) (w : World) (tables : List FunctionTable) (entered : Registers) where
+  -- A step keeps to the sandbox, and the run goes on so, or it traps, or it returns as it should.
+  pub record IsSafeStep (Rest : State → Type 0) (s : State) (here : Here) (choice : Choice) : Type 0 where
+    pub permitted : EachEvent m w (Permitted m w s here) s here choice
+    pub keeps_to_tables : EachEvent m w (StepKeepsTo m w tables s.active here) s here choice
+    pub passes_heap : EachEvent m w (StepPassesHeap m w s.registers here) s here choice
+    pub onward : Onward entered Rest (step m w s here choice)
+
+  -- The run from a state under these choices, one for each step, stays in the sandbox.
+  abbrev pub StaysSafe : List Choice → State → Type 0
+  StaysSafe [] s = Unit {0}
+  StaysSafe (choice ∷ choices) s = (here : Here) × StandsAt m w s.rip s.active here × IsSafeStep (StaysSafe choices) s here choice
+
+-- Under every list of choices every run stays in the sandbox.
+abbrev pub StaysSandboxed : Module → List FunctionTable → Type 0
+StaysSandboxed m tables =
+    (w : World) → IsLaidOut m.image m.imports w → (f : Function) → Contains m.functions f → (first : State) → IsInitial w f first
+    → (choices : List Choice) → StaysSafe m w tables first.registers choices first

@@ -1,0 +1,139 @@
+//! Facts about the definitions, each the contract of a function that does nothing. The last is the theorem on safe code;
+//! the others show that the definitions refuse what they are meant to refuse, and that what they say of every run speaks
+//! of some.
+
+ghost use Rattle.std.specs.Prelude.{◌≡◌, ◌≢◌, ◌⊎◌, ◌↔◌, ℕ, ◌+◌, ◌-◌, ◌≤◌, List, [], ◌∷◌, Contains};
+ghost use Rattle.vw_image.specs.Image.{image_of};
+ghost use Rattle.vw_insn.specs.Effect.{Ordinary};
+ghost use Rattle.vw_insn.specs.Words.{Registers};
+ghost use Rattle.vw_layout.specs.Layout.{IsModule, declared_functions};
+ghost use Rattle.vw_layout.specs.declared.functions.Function.{Function};
+ghost use Rattle.vw_rows.specs.Numbers.{IsBytes};
+ghost use Rattle.vw_state.specs.Code.{code_at, NothingAt};
+ghost use Rattle.vw_state.specs.declared.tables.FunctionTable.{FunctionTable};
+ghost use Rattle.vw_state.specs.declared.tables.Tables.{Tables};
+ghost use Rattle.vw_checks.specs.Modules.{AreSafe};
+ghost use Rattle.vw_machine.specs.declared.world.World.{World};
+ghost use Rattle.vw_machine.specs.declared.choice.Choice.{Choice};
+ghost use Rattle.vw_machine.specs.declared.event.Event.TheVariants.{Write, Goto};
+ghost use Rattle.vw_machine.specs.World.{IsLaidOut, IsWithin, heap_range, globals_range};
+ghost use Rattle.vw_machine.specs.Module.{Module, declared_module, module_of};
+ghost use Rattle.vw_machine.specs.State.{Activation, State};
+ghost use Rattle.vw_machine.specs.Standing.{Here, IsOf, StandsAt};
+ghost use Rattle.vw_machine.specs.Step.{Went, Returned, step};
+ghost use Rattle.vw_machine.specs.Events.{events};
+ghost use Rattle.vw_machine.specs.Entered.{IsInitial};
+ghost use Rattle.vw_sandbox.specs.Runs.{Reaches, RunsTo};
+ghost use Rattle.vw_sandbox.specs.Claims.{HasState, InsnKeepsTo, KeepsRegisters};
+ghost use Rattle.vw_sandbox.specs.Sandboxed.{IsSandboxed, StaysSandboxed};
+
+use vw_checks::passing_code_is_covered;
+use vw_image::{code_is_settled, file_bytes_are_memory, segments_are_bounded};
+use vw_layout::{functions_are_code, functions_ascend, imports_are_few};
+use vw_machine::one_thing_stands;
+use vw_state::{code_has_its_size, edges_are_post};
+
+/// For each module there is an instance that is laid out well, and for each of its functions a state in which the
+/// host enters it: what is said of every run speaks of some.
+pub fn runs_begin()
+    ensures { (file : List ℕ) → IsModule file
+        → (w : World) × IsLaidOut (module_of file).image (module_of file).imports w
+        × ((f : Function) → Contains (module_of file).functions f → (s : State) × IsInitial w f s) }
+{
+    segments_are_bounded();
+    imports_are_few();
+}
+
+/// A claim about states of the machine.
+pub trait Claim {
+    /// The claim is met by a state.
+    ghost is_met: { State → Type 0 };
+}
+
+/// A claim that the first state of a run meets, and that each step keeps, is met by every state of the run.
+pub fn kept_claims_are_met<C: Claim>()
+    ensures { (m : Module) (w : World) (first : State) → C.is_met first
+        → ((s next : State) (here : Here) (choice : Choice) → C.is_met s
+        → StandsAt m w s.rip s.active here → step m w s here choice ≡ Went next → C.is_met next)
+        → (s : State) → Reaches m w first s → C.is_met s }
+{}
+
+/// A run is in a state exactly where it is there after some list of choices, one for each step.
+pub fn reaches_by_choices()
+    ensures { (m : Module) (w : World) (first s : State)
+        → (Reaches m w first s ↔ ((choices : List Choice) × RunsTo m w choices first s)) }
+{}
+
+/// A module is sandboxed exactly where under every list of choices, one for each step, every run stays in the sandbox.
+pub fn sandboxed_by_choices()
+    ensures { (m : Module) (tables : List FunctionTable)
+        → (IsSandboxed m tables ↔ StaysSandboxed m tables) }
+{
+    one_thing_stands();
+}
+
+/// A transfer keeps to no tables whose points are all elsewhere: so not to tables that give the function no
+/// point, nor to an address between two points.
+pub fn transfers_keep_to_points()
+    ensures { (m : Module) (w : World) (tables : List FunctionTable) (top : Activation) (to : ℕ)
+        → ((f : Function) (point : ℕ) → IsOf m w top f → HasState tables f point
+        → to ≢ w.load + f.entry + point)
+        → InsnKeepsTo m w tables top Ordinary (Goto to) → ⊥ }
+{}
+
+/// A step that returns to the host with rsp elsewhere than 8 above that at the entry, or with another rbx, rbp or r12 to
+/// r15, is not as a function should return.
+pub fn wrong_returns_are_refused()
+    ensures rsp { (m : Module) (w : World) (entered : Registers) (s after : State)
+        (here : Here) (choice : Choice)
+        → StandsAt m w s.rip s.active here → step m w s here choice ≡ Returned after
+        → after.registers 4 ≢ entered 4 + 8 → KeepsRegisters m w entered s → ⊥ }
+    ensures saved { (m : Module) (w : World) (entered : Registers) (s after : State)
+        (here : Here) (choice : Choice)
+        → StandsAt m w s.rip s.active here → step m w s here choice ≡ Returned after
+        → (r : ℕ) → Contains (3 ∷ 5 ∷ 12 ∷ 13 ∷ 14 ∷ 15 ∷ []) r
+        → after.registers r ≢ entered r → KeepsRegisters m w entered s → ⊥ }
+{}
+
+/// What a run of a sandboxed module writes lies in the heap's reservation, in the globals, or from 8,192 bytes below the
+/// stack up to where the return address of the activation lies.
+pub fn writes_stay_in_bounds()
+    ensures { (m : Module) (tables : List FunctionTable) (w : World) (f : Function)
+        (first s : State) (here : Here) (choice : Choice) (top : Activation) (rest : List Activation) (a n : ℕ)
+        → IsSandboxed m tables → IsLaidOut m.image m.imports w → Contains m.functions f
+        → IsInitial w f first → Reaches m w first s → StandsAt m w s.rip s.active here → s.active ≡ top ∷ rest
+        → Contains (events m w s here choice) (Write a n)
+        → IsWithin a n (heap_range w) ⊎ IsWithin a n (globals_range w)
+        ⊎ ((w.stack_low - 8192 ≤ a) × (a + n ≤ top.rsp0)) }
+{}
+
+/// Where nothing decodes at the entry of a declared function, no tables sandbox the module.
+pub fn unspelled_code_is_not_sandboxed()
+    ensures { (file : List ℕ) (tables : List FunctionTable) (f : Function) → IsModule file
+        → Contains (declared_functions file) f
+        → NothingAt (code_at (image_of file) f.entry f.size) 0
+        → IsSandboxed (module_of file) tables → ⊥ }
+{
+    functions_are_code();
+    functions_ascend();
+    code_is_settled();
+    file_bytes_are_memory();
+    segments_are_bounded();
+    imports_are_few();
+    code_has_its_size();
+}
+
+/// A module stays in its sandbox, and keeps to tables that are safe: the tables may be the least ones or others.
+pub fn safe_code_is_sandboxed()
+    ensures { (file : List ℕ) (tables : Tables) → IsModule file → IsBytes file
+        → AreSafe (declared_module file) tables → IsSandboxed (module_of file) tables.functions }
+{
+    functions_are_code();
+    code_is_settled();
+    file_bytes_are_memory();
+    segments_are_bounded();
+    code_has_its_size();
+    edges_are_post();
+    passing_code_is_covered();
+    one_thing_stands();
+}
