@@ -1,16 +1,13 @@
 #!/bin/sh
-# Runs the program, and builds it first where it is not built yet.
+# Runs the program. Builds and proves it first where it is not built yet, or where a source is newer.
+# `vw rule N` prints what the rule that a `malformed` line names says.
 here=$(dirname "$0")
 program=$here/crates/vw_app/out/vw_app
-if [ ! -x "$program" ]; then
-    echo "vw: building and proving the program, which takes some minutes" >&2
-    (cd "$here/crates/vw_app" && rt run -- >/dev/null 2>"${TMPDIR:-/tmp}/vw-build.$$" </dev/null)
-    if [ ! -x "$program" ]; then
-        cat "${TMPDIR:-/tmp}/vw-build.$$" >&2
-        rm -f "${TMPDIR:-/tmp}/vw-build.$$"
-        echo "vw: the build failed" >&2
-        exit 125
-    fi
-    rm -f "${TMPDIR:-/tmp}/vw-build.$$"
+if [ "$#" -eq 2 ] && [ "$1" = rule ]; then
+    grep "^| $2 |" "$here/docs/RULES.md" || { echo "vw: no rule $2" >&2; exit 3; }
+    exit 0
+fi
+if [ ! -x "$program" ] || [ -n "$(find "$here/crates" -name out -prune -o -newer "$program" \( -name '*.rt' -o -name '*.antt' \) -print | head -n 1)" ]; then
+    "$here/tools/build" || exit 125
 fi
 exec "$program" "$@"
