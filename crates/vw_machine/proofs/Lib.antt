@@ -11,3 +11,8 @@ pub mod Regions
 pub mod LawLemmas
 pub mod ImageLemmas
 pub mod DoingLemmas
+pub mod RefusalLemmas
+pub mod WritingLemmas
+pub mod StepLemmas
+pub mod RegisterLemmas
+pub mod WorldLemmas

@@ -24,6 +24,15 @@ pub record IsEntryRsp (w : World) (rsp : ℕ) : Type 0 where
   pub low : w.stack_low ≤ rsp
   pub high : rsp + 4104 ≤ w.stack_high
 
+module _ (m : Module) (w : World) (s : State) where
+  -- the first of these events that is not permitted
+  pub record IsFirstRefused (here : Here) (all : List Event) (event : Event) : Type 0 where
+    pub before : List Event
+    pub behind : List Event
+    pub in_order : all ≡ before ++ event ∷ behind
+    pub permitted : AllByRecursion (Permitted m w s here) before
+    pub refused : ¬ Permitted m w s here event
+
 module _ (m : Module) (w : World) (s : State) (choice : Choice) where
   -- these are the events of the next step
   abbrev pub AreEvents : List Event → Type 0
@@ -34,12 +43,8 @@ module _ (m : Module) (w : World) (s : State) (choice : Choice) where
   AllPermitted here = AllByRecursion (Permitted m w s here) (events m w s here choice)
 
   -- the first event of the step that is not permitted
-  pub record IsViolation (here : Here) (event : Event) : Type 0 where
-    pub before : List Event
-    pub behind : List Event
-    pub in_order : events m w s here choice ≡ before ++ event ∷ behind
-    pub permitted : AllByRecursion (Permitted m w s here) before
-    pub refused : ¬ Permitted m w s here event
+  abbrev pub IsViolation : Here → Event → Type 0
+  IsViolation here event = IsFirstRefused m w s here (events m w s here choice) event
 
   -- A step of what stands at rip ends so and leaves this state. Only a step of which each event is permitted is made.
   abbrev pub EndsAs : Here → Outcome → State → Type 0

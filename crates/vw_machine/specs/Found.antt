@@ -1,9 +1,10 @@
 -- What stands at rip, and what a step does, as the code has them.
 use Rattle.std.specs.Prelude.{◌≡◌, ℕ, ◌+◌, Bool, not, ◌&&◌, ◌||◌, if◌then◌else◌, List, [], ◌∷◌, ◌++◌, Option, None, Some}
-use Rattle.std.specs.List.{list_any}
+use Rattle.std.specs.List.{list_any, AllByRecursion}
 use Rattle.vw_insn.specs.declared.instruction.Insn.{Insn}
 use Rattle.vw_insn.specs.Listed.{IsListed}
-use Rattle.vw_insn.specs.Effect.{Access, reads}
+use Rattle.vw_insn.specs.Effect.{Access, After, Transfer, Next, To, Enter, Back, Stop, raised, reads}
+use Rattle.vw_insn.specs.Words.{put}
 use Rattle.vw_effect.specs.Meaning.{reads_of, writes_of, transfer_of, after_of}
 use Rattle.vw_stmt.specs.Accesses.{places_of}
 use Rattle.vw_bits.specs.Places.{in_memory}
@@ -16,6 +17,8 @@ use Rattle.vw_layout.specs.declared.tables.TableEntry.{TableEntry}
 use Rattle.vw_layout.specs.declared.layout.Module.{Module as Declared}
 use Rattle.vw_machine.specs.declared.world.World.{World}
 use Rattle.vw_machine.specs.declared.event.Event.{Event}
+use Rattle.vw_machine.specs.declared.event.Outcome.{Outcome}
+use Rattle.vw_machine.specs.declared.event.Outcome.TheVariants as outcome
 use Rattle.vw_machine.specs.declared.event.Event.TheVariants.{Goto}
 use Rattle.vw_machine.specs.declared.standing.Place.{Place}
 use Rattle.vw_machine.specs.declared.standing.Place.TheVariants as place
@@ -28,8 +31,9 @@ use Rattle.vw_machine.specs.World.{is_within, touches, guard_range, heap_range, 
 use Rattle.vw_machine.specs.Module.{Module, is_in_table}
 use Rattle.vw_machine.specs.State.{Activation, State}
 use Rattle.vw_machine.specs.Standing.{Here, Code, Stub, Host, Probe, Nowhere, IsInside, IsSpelledAt, IsHostAt, IsProbeAt}
-use Rattle.vw_machine.specs.Step.{after_insn, accesses, does_trap, slot_word}
-use Rattle.vw_machine.specs.Permitted.{is_pointer}
+use Rattle.vw_machine.specs.Step.{Ending, Went, Returned, Trapped, after_insn, accesses, does_trap, slot_word, entered, go, arrive, host_leaves, probe_traps}
+use Rattle.vw_machine.specs.Permitted.{is_pointer, Permitted}
+use Rattle.vw_machine.specs.Answers.{IsFirstRefused}
 use Rattle.vw_machine.specs.Events.{read_events, write_events, transfer_events}
 
 abbrev pub here_of : Thing → Here
@@ -117,3 +121,34 @@ pub record IsWork (m : Module) (w : World) (s : State) (i : Insn) (len : ℕ) (c
   pub what_is_read : reads_of work.reads ≡ reads i (s.rip + len) s.registers
   pub what_is_left : after_of work.after ≡ after_insn m w s i len choice
   pub whether_it_traps : work.traps ≡ does_trap w i (accesses (reads i (s.rip + len) s.registers) (after_insn m w s i len choice).writes) choice
+
+-- the first of these events that is not permitted, or that each is
+abbrev pub IsRefusal : Module → World → State → Here → List Event → Option Event → Type 0
+IsRefusal m w s here all None = AllByRecursion (Permitted m w s here) all
+IsRefusal m w s here all (Some event) = IsFirstRefused m w s here all event
+
+-- a step from a state has this ending, seen by what the code answers and by the state that it leaves
+abbrev pub IsEnding : State → Ending → Outcome → State → Type 0
+IsEnding s ending outcome.Went s' = ending ≡ Went s'
+IsEnding s ending outcome.Returned s' = ending ≡ Returned s'
+IsEnding s ending outcome.Trapped s' = (ending ≡ Trapped) × (s' ≡ s)
+IsEnding s ending (outcome.Violation event) s' = ⊥
+
+-- the activations after an instruction that goes somewhere, which `top` made, with what it wrote
+abbrev pub active_after : After → ℕ → Transfer → Activation → List Activation → List Activation
+active_after after next Next top rest = top ∷ rest
+active_after after next (To to) top rest = top ∷ rest
+active_after after next (Enter to) top rest = entered after next to ∷ top ∷ rest
+active_after after next (Back to) top rest = rest
+active_after after next Stop top rest = rest
+
+-- the ending of a step of an instruction
+abbrev pub work_ending : World → State → Activation → List Activation → Work → Ending
+work_ending w s top rest work =
+    if work.traps then Trapped else go w s top rest (after_of work.after) work.next (transfer_of work.after.transfer)
+
+-- the ending of a step of the probe
+abbrev pub probe_ending : World → State → Activation → List Activation → Choice → Ending
+probe_ending w s top rest choice =
+    if probe_traps w s.registers then Trapped
+    else arrive w (host_leaves w s top rest (put s.registers 4 (raised (s.registers 4))) choice)

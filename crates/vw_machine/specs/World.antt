@@ -1,6 +1,6 @@
 -- Where an instance lies in memory, and what it is that it is laid out well.
-use Rattle.std.specs.Prelude.{◌≡◌, ◌≢◌, ℕ, ◌+◌, ◌-◌, ◌%◌, ◌^◌, ◌<◌, ◌≤◌, ◌&&◌, Bool, nat_le, nat_lt, List, [], ◌∷◌, length, AllPairs}
-use Rattle.std.specs.List.{AllByRecursion}
+use Rattle.std.specs.Prelude.{◌≡◌, ◌≢◌, ℕ, ◌+◌, ◌-◌, ◌%◌, ◌^◌, ◌<◌, ◌≤◌, ◌&&◌, Bool, nat_le, nat_lt, ◌*◌, List, [], ◌∷◌, map, length, AllPairs}
+use Rattle.std.specs.List.{AllByRecursion, range_with_len}
 use Rattle.vw_machine.specs.declared.world.World.{World}
 
 -- the addresses from `from` up to, and without, `to`
@@ -76,3 +76,20 @@ pub record IsLaidOut (image : List Range) (imports : ℕ) (w : World) : Type 0 w
   pub one_host_each : length w.hosts ≡ imports
   pub hosts_outside : AllByRecursion (IsHostAddress w image) (w.host_return ∷ w.hosts)
   pub hosts_distinct : AllPairs ◌≢◌ (w.host_return ∷ w.hosts)
+
+-- addresses for so many functions of the host, sixteen bytes from one to the next
+unfoldable pub usual_hosts : ℕ → List ℕ
+usual_hosts count = map (λ k. 0x600000000000 + 16 * k) (range_with_len 0 count)
+
+-- the instance of a module with so many imports in which all lies far apart, with a stack of 1 MiB
+unfoldable pub usual_instance : ℕ → World
+usual_instance imports =
+    record {
+      load = 0x10000000000;
+      heap = 0x200000000000;
+      globals = 0x300000000000;
+      stack_low = 0x400000000000;
+      stack_high = 0x400000100000;
+      host_return = 0x500000000000;
+      hosts = usual_hosts imports;
+    }

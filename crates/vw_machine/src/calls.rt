@@ -21,7 +21,7 @@ use vw_bits::{List, OutOfMemory};
 use vw_effect::{Access, Reads, Write};
 use vw_layout::Module;
 
-fn read_event(read: Access) -> Event
+pub(crate) fn read_event(read: Access) -> Event
     ensures { result ≡ Event.Read read.at read.size }
 {
     Event::Read {

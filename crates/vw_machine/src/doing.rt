@@ -39,7 +39,7 @@ pub(crate) struct Deeds {
 
 // What an instruction reads, and what it leaves, before anything is judged. `next` is the address of the next one.
 #[derive(Clone, Copy)]
-struct Work {
+pub(crate) struct Work {
     pub next: u64,
     pub reads: Reads,
     pub after: After,
@@ -149,7 +149,7 @@ fn next_address(machine: &Machine, module: &Module, world: &World, insn: &Insn, 
 }
 
 // What an instruction does.
-fn work_of(
+pub(crate) fn work_of(
     machine: &Machine,
     module: &Module,
     world: &World,
@@ -180,7 +180,7 @@ fn work_of(
 }
 
 // Where an instruction goes, where it does not trap.
-fn goto_of(work: &Work) -> Option<u64>
+pub(crate) fn goto_of(work: &Work) -> Option<u64>
     ensures { goto_events result
         ≡ (if work.now.traps then [] else transfer_events work.now.next
         (transfer_of work.now.after.transfer)) }
@@ -196,7 +196,7 @@ fn goto_of(work: &Work) -> Option<u64>
 }
 
 // What an instruction reads, writes and goes to.
-fn deeds_of_work(work: &Work) -> Deeds
+pub(crate) fn deeds_of_work(work: &Work) -> Deeds
     ensures { deed_events result ≡ work_events work.now }
 {
     Deeds {
@@ -232,7 +232,7 @@ fn stub_deeds(world: &World, slot: u64, to: u64) -> Deeds
 }
 
 // Whether the probe does not come back.
-fn probe_traps(machine: &Machine, world: &World) -> bool
+pub(crate) fn probe_traps(machine: &Machine, world: &World) -> bool
     ensures { result ≡ probe_traps world.now (registers_of machine.now.registers) }
 {
     let rsp = machine.registers[4].wrapping_add(8);

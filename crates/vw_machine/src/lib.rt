@@ -13,10 +13,15 @@ mod judging;
 mod laws;
 mod loading;
 mod machine;
+mod marks;
 mod memory;
+mod placing;
 mod ranges;
+mod refusing;
 mod standing;
+mod stepping;
 mod world;
+mod writing;
 
 pub use calls::{events, permitted};
 pub use choice::Choice;
@@ -28,3 +33,6 @@ pub use laws::{
 };
 pub use machine::{Frame, Machine};
 pub use world::World;
+
+#[cfg(test)]
+mod tests;

@@ -1,6 +1,6 @@
 //! The bytes of the stack, by address.
 
-ghost use Rattle.std.specs.Prelude.{◌≡◌, ◌≢◌, ℕ, ◌+◌, ◌-◌, ◌/◌, ◌%◌, ◌^◌, ◌<◌, ◌≤◌, ◌&&◌, nat_le, nat_lt, IsSome, OnOk, false};
+ghost use Rattle.std.specs.Prelude.{◌≡◌, ◌≢◌, ℕ, ◌+◌, ◌-◌, ◌/◌, ◌%◌, ◌^◌, ◌<◌, ◌≤◌, ◌&&◌, nat_le, nat_lt, IsSome, OnOk, false, length, slice_index};
 ghost use Rattle.std.specs.BTreeMap.{get};
 ghost use Rattle.std.specs.Ordering.{nat_cmp};
 ghost use Rattle.vw_bits.specs.Fields.{load};
@@ -65,22 +65,40 @@ fn put_byte(bytes: &mut BTreeMap<u64, u8>, at: u64, byte: u8)
 
 // Byte k of a number, the least significant first.
 fn byte_of(value: u128, k: u64) -> u8
-    requires { k < 16 }
     ensures { result ≡ value / 256 ^ k % 256 }
 {
-    ((value >> (8 * k)) % 256) as u8
+    if k < 16 {
+        ((value >> (8 * k)) % 256) as u8
+    } else {
+        0
+    }
 }
 
 // Puts the bytes of a number whose first one is at `at`: those from `from` to, and without, `to`, where there is room.
 pub(crate) fn put_number(bytes: &mut BTreeMap<u64, u8>, from: u64, to: u64, at: u64, value: u128)
     requires room { (q : ℕ) → from ≤ q → q < to → IsSome (get nat_cmp bytes.old q) }
     requires first { from < to → at ≤ from }
-    requires last { from < to → to ≤ at + 16 }
     ensures put { (q : ℕ) → from ≤ q → q < to → byte_in bytes.new q ≡ value / 256 ^ (q - at) % 256 }
     ensures others { (q : ℕ) → (nat_le from q && nat_lt q to) ≡ false → byte_in bytes.new q
         ≡ byte_in bytes.old q }
 {
     for q in from..to {
         put_byte(bytes, q, byte_of(value, q - at));
+    }
+}
+
+// Puts the bytes of a list downwards from the one below `top`: those from `from` to, and without, `to`, where there is
+// room.
+pub(crate) fn put_below(bytes: &mut BTreeMap<u64, u8>, from: u64, to: u64, top: u64, below: &[u8])
+    requires room { (q : ℕ) → from ≤ q → q < to → IsSome (get nat_cmp bytes.old q) }
+    requires under { from < to → to ≤ top }
+    requires reached { from < to → top ≤ from + length below.now }
+    ensures put { (q : ℕ) → from ≤ q → q < to → byte_in bytes.new q
+        ≡ slice_index below.now (top - 1 - q) % 256 }
+    ensures others { (q : ℕ) → (nat_le from q && nat_lt q to) ≡ false → byte_in bytes.new q
+        ≡ byte_in bytes.old q }
+{
+    for q in from..to {
+        put_byte(bytes, q, below[(top - 1 - q) as usize]);
     }
 }
