@@ -2,7 +2,7 @@ ghost use Rattle.std.specs.Prelude.{◌≡◌, ℕ, ◌+◌, ◌-◌, ◌*◌, �
 ghost use Rattle.std.specs.List.{All};
 ghost use Rattle.vw_solver.specs.Solution.{state_at, IsLeast, HoldsReachedPoints, weight_of, weights_from};
 ghost use Rattle.vw_solver.specs.Standing.{IsTable, RanksAtMost};
-ghost use Rattle.vw_solver.specs.Seed.{HasSeed, GrownFrom, TicksFrom};
+ghost use Rattle.vw_solver.specs.Seed.{HasSeed, GrownFrom, TicksFrom, BoundFrom};
 ghost use Rattle.vw_solver.specs.Landing.{AllValid, AllHaveStates, Visits};
 ghost use Rattle.vw_solver.specs.Visited.{Visited, VisitsCounted, VisitsFailed};
 ghost use Rattle.vw_solver.specs.Tables.{empties};
@@ -109,7 +109,8 @@ pub fn solve<E: Equations, L: Ledger>(
 
 /// The least solution of the equations, from a table that is lower than every solution, and lacks of one
 /// only that the edges of these points land. It counts the steps of its evaluations, at most as many as
-/// `solve` may. OutOfMemory where the allocator refuses a request: then only the steps have changed.
+/// `solve` may, from each start and first state whose solutions the table is lower than. OutOfMemory where the
+/// allocator refuses a request: then only the steps have changed, by at most the product over all points.
 pub fn resume<E: Equations, L: Ledger>(
     alloc: Global,
     equations: &E,
@@ -120,6 +121,7 @@ pub fn resume<E: Equations, L: Ledger>(
     requires seed { HasSeed E.State.below (E.State.valid (E.bounds equations.now)) (E.edges equations.now) (E.points equations.now) table points.keys }
     ensures grown { IfOk result (GrownFrom E.State.below (E.State.valid (E.bounds equations.now)) (E.edges equations.now) (E.points equations.now) table points.keys) }
     ensures ticks { IfOk result (TicksFrom E.State.below (E.State.valid (E.bounds equations.now)) (E.State.rank (E.bounds equations.now)) (E.edges equations.now) (E.weight equations.now) (E.points equations.now) table points.keys steps.old steps.new) }
+    ensures bound { BoundFrom E.State.below (E.State.valid (E.bounds equations.now)) (E.State.rank (E.bounds equations.now)) (E.edges equations.now) (E.weight equations.now) (E.points equations.now) table points.keys steps.old steps.new }
     ensures counts { steps.old ≤ steps.new }
 {
     let mut states = table;

@@ -9,7 +9,9 @@ use Rattle.vw_values.specs.ValueOrder.{value-trans}
 use Rattle.std.specs.Prelude.{slice_get, length, ◌*◌}
 use Rattle.std.proofs.lemmas.Option.{slice_get_within}
 use Rattle.vw_values.specs.Stands.{FunctionTable, Instance, Stands, AtEntry, HasTag, HasMark, IsReadAt, register_of}
-use Rattle.vw_values.specs.Laws.{GreaterStandsForMore, StandsAcrossRegisters, TagsTypeAddresses, TagsMarkIndices, JoinsRise}
+use Rattle.vw_values.specs.Laws.{GreaterStandsForMore, StandsAcrossRegisters, TagsTypeAddresses, TagsMarkIndices, JoinsAreLeast, JoinsRise, LeastBoundsRise, NumbersJoin}
+use Rattle.vw_values.specs.Joins.{join}
+use Rattle.vw_values.proofs.JoinLemmas.{joins}
 
 module _ (s : Instance) (registers : ℕ → ℕ) where
   below-more : (k : ℕ) (x : Value) (m : ℕ) → under_below k x → Stands s registers x m → m < k
@@ -84,9 +86,20 @@ pub across-registers : StandsAcrossRegisters
 across-registers s registers others (TagOf t via) m same h = (h.0, read-across s registers others t via h.0 same h.1, h.2)
 across-registers s registers others _ m same h = h
 
+pub least-bounds-rise : LeastBoundsRise
+least-bounds-rise b x x' y y' j k hx hx' hy hy' low high f g =
+    low.least k high.valid (value-trans x x' k hx hx' high.valid.0 f high.above_left) (value-trans y y' k hy hy' high.valid.0 g high.above_right)
+
+pub joins-are-least : JoinsAreLeast
+joins-are-least b x y bounds hx hy = (joins b x y bounds).least hx hy
+
 pub joins-rise : JoinsRise
-joins-rise b x x' y y' j k hx hx' hy hy' low high f g =
-    low.least k high.valid (value-trans x x' k hx.0 hx'.0 high.valid.0 f high.above_left) (value-trans y y' k hy.0 hy'.0 high.valid.0 g high.above_right)
+joins-rise b x x' y y' bounds hx hx' hy hy' f g =
+    least-bounds-rise b x x' y y' (join b x y) (join b x' y') hx hx' hy hy' (joins-are-least b x y bounds hx hy) (joins-are-least b x' y' bounds hx' hy') f g
+
+-- Num is valid and above both
+pub numbers-join : NumbersJoin
+numbers-join b x y bounds hx hy f g = (joins-are-least b x y bounds hx hy).least Num (tt, tt) f g
 
 -- ---- tags
 

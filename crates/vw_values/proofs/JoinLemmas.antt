@@ -1,15 +1,18 @@
 -- Joins of values are joins of their shapes, raised to the bounds.
-use Rattle.std.proofs.Common.{◌≡◌, ◌≢◌, ℕ, ◌-◌, ◌^◌, ◌<◌, ◌≤◌, ◌⊎◌, inl, inr, Option, Some, None, List, ◌∷◌, refl, sym, ap, subst, ◌∙◌, arith, max, nat_le, nat_lt, Bool, true, false, if◌then◌else◌}
+use Rattle.std.proofs.Common.{◌≡◌, ◌≢◌, ℕ, ◌-◌, ◌^◌, ◌<◌, ◌≤◌, ◌⊎◌, inl, inr, Option, Some, None, List, ◌∷◌, refl, sym, ap, subst, ◌∙◌, arith, max, nat_le, nat_lt, ◌==◌, ◌&&◌, Bool, true, false, if◌then◌else◌}
 use Rattle.std.proofs.lemmas.Bool.Decides.{nat_tests}
 use Rattle.vw_values.specs.Bounds.{IsMember, IsBounds, IsLeastFrom, first_from}
 use Rattle.vw_values.specs.declared.value.Value.{Value}
 use Rattle.vw_values.specs.declared.value.Value.TheVariants.{Any, Num, Const, Below, Low, Both, HeapBase, HeapAddr, Globals, Entry, Image, Index16, EntryPtr, EntryTyped, TagOf, TableFn, JumpOff, JumpDest}
+use Rattle.vw_values.specs.declared.value.Via.{Via}
+use Rattle.vw_values.specs.declared.value.Via.TheVariants.{At, Idx}
 use Rattle.vw_values.specs.declared.shape.Family.{Family}
 use Rattle.vw_values.specs.declared.shape.Family.TheVariants as fam
 use Rattle.vw_values.specs.declared.shape.Shape.{Shape}
 use Rattle.vw_values.specs.Values.{IsValue, IsTable, IsTag, IsMark, IsVia, IsCount, value_below, mark_below, IsValid}
 use Rattle.vw_values.specs.Shapes.{shape_of, value_of, value_in, number_of, value_of_count, exact_or, typed_or}
-use Rattle.vw_values.specs.Joins.{Joins, IsShared}
+use Rattle.vw_lattice.specs.Order.{IsJoin}
+use Rattle.vw_values.specs.Joins.{join, joined_shapes, value_up_to, same_family, same_via, shared_mark}
 use Rattle.vw_values.specs.ShapeOrder.{to-shapes, from-shapes, const-told, mark-reflexive}
 use Rattle.vw_values.specs.ValueOrder.{value-reflexive}
 use Rattle.vw_values.specs.RankFalls.{IsLevelled, levels}
@@ -207,16 +210,107 @@ family-raised (fam.TableFn t g) high low mark h l m none = one-raised (TableFn t
 family-raised (fam.JumpOff a) high low mark h l m none = counted-raised (fam.JumpOff a) high low mark (JumpOff a low) l.1 record { family = refl; low' = refl; mark' = sym m; above = omega arith; least = λ k step g. omega arith }
 family-raised (fam.JumpDest a) high low mark h l m none = counted-raised (fam.JumpDest a) high low mark (JumpDest a low) l.1 record { family = refl; low' = refl; mark' = sym m; above = omega arith; least = λ k step g. omega arith }
 
--- ---- the four answers
+-- ---- the definition's tests
 
-pub joins-same : (b : List ℕ) (x : Value) → Joins b x x x
-joins-same b x = record {
-  kept = λ hx. hx;
-  join = λ hx hy. record { valid = hx; above_left = value-reflexive x hx.0; above_right = value-reflexive x hx.0; least = λ u hu f g. f };
+nat-same : (m n : ℕ) → (m == n) ≡ true → m ≡ n
+nat-same m n e = grind (arith, nat_tests)
+
+same-nat : (n : ℕ) → (n == n) ≡ true
+same-nat n = grind (arith, nat_tests)
+
+-- both tests of a pair of them
+both-told : (a b : Bool) → (a && b) ≡ true → (a ≡ true) × (b ≡ true)
+both-told true b e = (refl, e)
+both-told false b e = cc
+
+told-both : (a b : Bool) → a ≡ true → b ≡ true → (a && b) ≡ true
+told-both true b e f = f
+told-both false b e f = cc
+
+via-told : (v w : Via) → same_via v w ≡ true → v ≡ w
+via-told (At r) (At q) e = ap At (nat-same r q e)
+via-told (At r) (Idx q) e = cc
+via-told (Idx r) (At q) e = cc
+via-told (Idx r) (Idx q) e = ap Idx (nat-same r q e)
+
+via-same : (v : Via) → same_via v v ≡ true
+via-same (At r) = same-nat r
+via-same (Idx r) = same-nat r
+
+tag-same : (t u : ℕ) (v w : Via) → (t ≡ u) → (v ≡ w) → fam.TagOf t v ≡ fam.TagOf u w
+tag-same t u v w e f = cc
+
+fn-same : (t u g h : ℕ) → (t ≡ u) → (g ≡ h) → fam.TableFn t g ≡ fam.TableFn u h
+fn-same t u g h e f = cc
+
+family-told : (f g : Family) → same_family f g ≡ true → f ≡ g
+family-told fam.Any fam.Any e = refl
+family-told fam.Number fam.Number e = refl
+family-told fam.Heap fam.Heap e = refl
+family-told fam.Globals fam.Globals e = refl
+family-told (fam.Entry r) (fam.Entry q) e = ap fam.Entry (nat-same r q e)
+family-told (fam.Image a) (fam.Image b) e = ap fam.Image (nat-same a b e)
+family-told fam.Index fam.Index e = refl
+family-told (fam.Pointer t) (fam.Pointer u) e = ap fam.Pointer (nat-same t u e)
+family-told (fam.TagOf t v) (fam.TagOf u w) e = let p = both-told (t == u) (same_via v w) e in tag-same t u v w (nat-same t u p.0) (via-told v w p.1)
+family-told (fam.TableFn t g) (fam.TableFn u h) e = let p = both-told (t == u) (g == h) e in fn-same t u g h (nat-same t u p.0) (nat-same g h p.1)
+family-told (fam.JumpOff a) (fam.JumpOff b) e = ap fam.JumpOff (nat-same a b e)
+family-told (fam.JumpDest a) (fam.JumpDest b) e = ap fam.JumpDest (nat-same a b e)
+family-told _ _ e = cc
+
+family-same : (f : Family) → same_family f f ≡ true
+family-same fam.Any = refl
+family-same fam.Number = refl
+family-same fam.Heap = refl
+family-same fam.Globals = refl
+family-same (fam.Entry r) = same-nat r
+family-same (fam.Image a) = same-nat a
+family-same fam.Index = refl
+family-same (fam.Pointer t) = same-nat t
+family-same (fam.TagOf t v) = told-both (t == t) (same_via v v) (same-nat t) (via-same v)
+family-same (fam.TableFn t g) = told-both (t == t) (g == g) (same-nat t) (same-nat g)
+family-same (fam.JumpOff a) = same-nat a
+family-same (fam.JumpDest a) = same-nat a
+
+-- the mark that both have, where both have one
+abbrev IsShared : Option (ℕ × ℕ) → Option (ℕ × ℕ) → Option (ℕ × ℕ) → Type 0
+IsShared m n shared = ((m ≡ n) × (shared ≡ m)) ⊎ ((m ≢ n) × (shared ≡ None))
+
+pair-same : (m n : ℕ × ℕ) → m.0 ≡ n.0 → m.1 ≡ n.1 → m ≡ n
+pair-same m n e f = subst (λ k. m ≡ (k, n.1)) e (subst (λ k. m ≡ (m.0, k)) f refl)
+
+mark-zero : (m n : ℕ × ℕ) → ◌≡◌ {A = Option (ℕ × ℕ)} (Some m) (Some n) → m ≡ n
+mark-zero m n e = cc
+
+marks-shared : (m n : Option (ℕ × ℕ)) → IsShared m n (shared_mark m n)
+marks-shared None None = inl (refl, refl)
+marks-shared None (Some n) = inr (λ e. cc, refl)
+marks-shared (Some m) None = inr (λ e. cc, refl)
+marks-shared (Some m) (Some n) = go (m.0 == n.0 && m.1 == n.1) refl
+  where
+    go : (t : Bool) → (m.0 == n.0 && m.1 == n.1) ≡ t → IsShared (Some m) (Some n) (if t then Some m else None)
+    go true e = let p = both-told (m.0 == n.0) (m.1 == n.1) e in inl (ap Some (pair-same m n (nat-same m.0 n.0 p.0) (nat-same m.1 n.1 p.1)), refl)
+    go false e = inr (λ same. differ (mark-zero m n same), refl)
+      where
+        differ : m ≡ n → ⊥
+        differ same =
+            let first : m.0 == n.0 ≡ true = subst (λ (k : ℕ × ℕ). (m.0 == k.0) ≡ true) same (same-nat m.0) in
+            let later : m.1 == n.1 ≡ true = subst (λ (k : ℕ × ℕ). (m.1 == k.1) ≡ true) same (same-nat m.1) in
+            let both = told-both (m.0 == n.0) (m.1 == n.1) first later in
+            cc
+
+-- ---- joins
+
+-- from a first value in its range comes a valid one, and from two such values the least valid one above both
+pub record Joins (bounds : List ℕ) (x y joined : Value) : Type 0 where
+  pub kept : IsValue x → IsValid bounds joined
+  pub least : IsValue x → IsValue y → IsJoin value_below (IsValid bounds) x y joined
+
+joins-const : (b : List ℕ) (c : ℕ) → Joins b (Const c) (Const c) (Const c)
+joins-const b c = record {
+  kept = λ hx. (hx, tt);
+  least = λ hx hy. record { valid = (hx, tt); above_left = refl; above_right = refl; least = λ u hu f g. f };
 }
-
-any-above : (x : Value) → value_below x Any
-any-above x = tt
 
 -- only Any is above two values of two families
 only-any : (x y u : Value) → IsValue x → IsValue y → IsValue u → ((shape_of x).family ≢ (shape_of y).family) → value_below x u → value_below y u → value_below Any u
@@ -226,10 +320,10 @@ only-any x y u hx hy hu apart f g =
       | inr p ↦ elim (to-shapes y u hy hu g) [ inl any ↦ from-shapes Any u tt hu (inl any) | inr q ↦ absurd (apart (p.0 ∙ sym q.0)) ]
     ]
 
-pub joins-apart : (b : List ℕ) (x y : Value) → (shape_of x).family ≢ (shape_of y).family → Joins b x y Any
+joins-apart : (b : List ℕ) (x y : Value) → (shape_of x).family ≢ (shape_of y).family → Joins b x y Any
 joins-apart b x y apart = record {
   kept = λ hx. (tt, tt);
-  join = λ hx hy. record { valid = (tt, tt); above_left = tt; above_right = tt; least = λ u hu f g. only-any x y u hx.0 hy.0 hu.0 apart f g };
+  least = λ hx hy. record { valid = (tt, tt); above_left = tt; above_right = tt; least = λ u hu f g. only-any x y u hx hy hu.0 apart f g };
 }
 
 at-most-whole : (f : Family) (low : ℕ) → IsLow f low → low ≤ 2 ^ 32
@@ -241,8 +335,8 @@ at-most-whole (fam.JumpDest a) low h = omega arith
 at-most-whole _ low h = omega arith
 
 -- a bound above all of them is never asked for
-pub joins-none : (b : List ℕ) (x y : Value) → IsBounds b → first_from (max (shape_of x).low (shape_of y).low) b ≡ None → Joins b x y Any
-joins-none b x y bounds none = record { kept = λ hx. (tt, tt); join = λ hx hy. absurd (too-large (in-shape x hx.0) (in-shape y hy.0)) }
+joins-none : (b : List ℕ) (x y : Value) → IsBounds b → first_from (max (shape_of x).low (shape_of y).low) b ≡ None → Joins b x y Any
+joins-none b x y bounds none = record { kept = λ hx. (tt, tt); least = λ hx hy. absurd (too-large (in-shape x hx) (in-shape y hy)) }
   where
     too-large : InShape (shape_of x) → InShape (shape_of y) → ⊥
     too-large left right =
@@ -307,67 +401,45 @@ max-listed b l m hl hm = elim (sides l m) [ inl e ↦ subst (λ k. IsMember b k)
     sides : (l m : ℕ) → (max l m ≡ l) ⊎ (max l m ≡ m)
     sides l m = grind arith
 
-low-listed : (b : List ℕ) (x : Value) → IsBounds b → IsValid b x → (shape_of x).family ≢ fam.Number → IsMember b (shape_of x).low
-low-listed b x bounds hx apart =
-    elim (levels b x hx) [
-      | inl const ↦ absurd (apart (ap (λ v. (shape_of v).family) const.1))
-      | inr levelled ↦ in-bounds b (shape_of x).low bounds levelled.low
-    ]
+-- a power of two is its own least bound from below, and what is below one has a bound below it
+power-stays : (b : List ℕ) (i low l : ℕ) → IsBounds b → i ≤ 33 → IsLeastFrom b l low → l ≡ 2 ^ i → low ≡ 2 ^ i
+power-stays b i low l bounds small up is = up-member l low b up (subst (λ k. IsMember b k) (sym is) (bounds.powers i small)) ∙ is
 
-module _ (b : List ℕ) (x y : Value) (low : ℕ) (mark : Option (ℕ × ℕ)) (bounds : IsBounds b) (differ : x ≢ y) (family : (shape_of x).family ≡ (shape_of y).family) (up : IsLeastFrom b (max (shape_of x).low (shape_of y).low) low) (shared : IsShared (shape_of x).mark (shape_of y).mark mark) where
+low-raised : (b : List ℕ) (f : Family) (l low : ℕ) → IsBounds b → IsLeastFrom b l low → IsLow f l → IsLow f low
+low-raised b fam.Number l low bounds up range = let most = up.least (2 ^ 32) (bounds.powers 32 (omega arith)) range.1 in let above = up.above in (omega arith, omega arith)
+low-raised b fam.Heap l low bounds up range = elim range [ inl one ↦ inl (power-stays b 0 low l bounds (omega arith) up one) | inr whole ↦ inr (power-stays b 32 low l bounds (omega arith) up whole) ]
+low-raised b fam.Index l low bounds up range = let most = up.least (2 ^ 16) (bounds.powers 16 (omega arith)) range.1 in let above = up.above in (omega arith, omega arith)
+low-raised b (fam.JumpOff a) l low bounds up range = let most = up.least (2 ^ 16) (bounds.powers 16 (omega arith)) range.1 in let above = up.above in (omega arith, omega arith)
+low-raised b (fam.JumpDest a) l low bounds up range = let most = up.least (2 ^ 16) (bounds.powers 16 (omega arith)) range.1 in let above = up.above in (omega arith, omega arith)
+low-raised b _ l low bounds up range = power-stays b 0 low l bounds (omega arith) up range
+
+-- a number without a mark, or two of one family of which one is no number
+module _ (b : List ℕ) (x y : Value) (low : ℕ) (mark : Option (ℕ × ℕ)) (bounds : IsBounds b) (family : (shape_of x).family ≡ (shape_of y).family) (up : IsLeastFrom b (max (shape_of x).low (shape_of y).low) low) (shared : IsShared (shape_of x).mark (shape_of y).mark mark) (unmarked : (shape_of x).family ≡ fam.Number → mark ≡ None) where
   abbrev joined : Value
   joined = value_in (shape_of x).family (max (shape_of x).high (shape_of y).high) low mark
 
-  kept : IsValid b x → IsValid b joined
+  kept : IsValue x → IsValid b joined
   kept hx =
-      let inside = in-shape x hx.0 in
+      let inside = in-shape x hx in
       family-valid b (shape_of x).family (max (shape_of x).high (shape_of y).high) low mark bounds up.member inside.family (shared-valid (shape_of x).family (shape_of x).mark (shape_of y).mark mark inside.mark shared)
 
-  unmarked : IsValid b x → (shape_of x).family ≡ fam.Number → mark ≡ None
-  unmarked hx f =
-      elim shared [
-        | inl p ↦ elim (levels b x hx) [
-          | inl const ↦
-              let same : Some (0, const.0) ≡ (shape_of y).mark = sym (ap (λ v. (shape_of v).mark) const.1) ∙ p.0 in
-              absurd (differ (const.1 ∙ sym (const-told const.0 y (sym family ∙ f) (sym same))))
-          | inr levelled ↦ p.1 ∙ levelled.unmarked f
-        ]
-        | inr q ↦ q.1
-      ]
-
-  low-in : (f : Family) → (shape_of x).family ≡ f → IsValid b x → IsValid b y → IsLow f (max (shape_of x).low (shape_of y).low) → IsLow f low
-  low-in f is hx hy range =
-      elim (is-number f) [
-        | inl number ↦
-            let R : Family → Type 0 = λ g. IsLow g (max (shape_of x).low (shape_of y).low) → IsLow g low in
-            subst R (sym number) number-low range
-        | inr other ↦
-            let left = low-listed b x bounds hx (λ e. other (sym is ∙ e)) in
-            let right = low-listed b y bounds hy (λ e. other (sym is ∙ family ∙ e)) in
-            let same = up-member (max (shape_of x).low (shape_of y).low) low b up (max-listed b (shape_of x).low (shape_of y).low left right) in
-            subst (λ l. IsLow f l) (sym same) range
-      ]
-    where
-      number-low : IsLow fam.Number (max (shape_of x).low (shape_of y).low) → IsLow fam.Number low
-      number-low range = let most = up.least (2 ^ 32) (bounds.powers 32 (omega arith)) range.1 in let above = up.above in (omega arith, omega arith)
-
-  raised : IsValid b x → IsValid b y → IsRaised (shape_of x).family (max (shape_of x).high (shape_of y).high) low mark joined
+  raised : IsValue x → IsValue y → IsRaised (shape_of x).family (max (shape_of x).high (shape_of y).high) low mark joined
   raised hx hy =
-      let left = in-shape x hx.0 in
-      let right = in-shape y hy.0 in
+      let left = in-shape x hx in
+      let right = in-shape y hy in
       let L : Family → Type 0 = λ f. IsLow f (shape_of y).low in
       let H : Family → Type 0 = λ f. IsHigh f (shape_of y).high in
       family-raised (shape_of x).family (max (shape_of x).high (shape_of y).high) low mark
       (highs-max (shape_of x).family (shape_of x).high (shape_of y).high left.high (subst H (sym family) right.high))
-      (low-in (shape_of x).family refl hx hy (lows-max (shape_of x).family (shape_of x).low (shape_of y).low left.low (subst L (sym family) right.low)))
+      (low-raised b (shape_of x).family (max (shape_of x).low (shape_of y).low) low bounds up (lows-max (shape_of x).family (shape_of x).low (shape_of y).low left.low (subst L (sym family) right.low)))
       (shared-valid (shape_of x).family (shape_of x).mark (shape_of y).mark mark left.mark shared)
-      (unmarked hx)
+      unmarked
 
-  above-left : IsValid b x → IsValid b y → value_below x joined
+  above-left : IsValue x → IsValue y → value_below x joined
   above-left hx hy =
       let r = raised hx hy in
       let most = up.above in
-      from-shapes x joined hx.0 (kept hx).0 (inr (sym r.family, below-max (shape_of x).high (shape_of y).high (shape_of joined).high r.above, low-most r.low', subst (λ k. mark_below (shape_of x).mark k) (sym r.mark') (shared-left (shape_of x).mark (shape_of y).mark mark shared)))
+      from-shapes x joined hx (kept hx).0 (inr (sym r.family, below-max (shape_of x).high (shape_of y).high (shape_of joined).high r.above, low-most r.low', subst (λ k. mark_below (shape_of x).mark k) (sym r.mark') (shared-left (shape_of x).mark (shape_of y).mark mark shared)))
     where
       below-max : (h j k : ℕ) → max h j ≤ k → h ≤ k
       below-max h j k most = omega arith
@@ -375,10 +447,10 @@ module _ (b : List ℕ) (x y : Value) (low : ℕ) (mark : Option (ℕ × ℕ)) (
       low-most : {l : ℕ} → l ≡ low → (shape_of x).low ≤ l
       low-most e = let most = up.above in omega arith
 
-  above-right : IsValid b x → IsValid b y → value_below y joined
+  above-right : IsValue x → IsValue y → value_below y joined
   above-right hx hy =
       let r = raised hx hy in
-      from-shapes y joined hy.0 (kept hx).0 (inr (sym family ∙ sym r.family, below-max (shape_of x).high (shape_of y).high (shape_of joined).high r.above, low-most r.low', subst (λ k. mark_below (shape_of y).mark k) (sym r.mark') (shared-right (shape_of x).mark (shape_of y).mark mark shared)))
+      from-shapes y joined hy (kept hx).0 (inr (sym family ∙ sym r.family, below-max (shape_of x).high (shape_of y).high (shape_of joined).high r.above, low-most r.low', subst (λ k. mark_below (shape_of y).mark k) (sym r.mark') (shared-right (shape_of x).mark (shape_of y).mark mark shared)))
     where
       below-max : (h j k : ℕ) → max h j ≤ k → j ≤ k
       below-max h j k most = omega arith
@@ -386,53 +458,111 @@ module _ (b : List ℕ) (x y : Value) (low : ℕ) (mark : Option (ℕ × ℕ)) (
       low-most : {l : ℕ} → l ≡ low → (shape_of y).low ≤ l
       low-most e = let most = up.above in omega arith
 
-  least-inside : (u : Value) → IsValid b x → IsValid b y → IsValid b u → value_below x u → value_below y u → IsLevelled b u → (shape_of x).family ≡ (shape_of u).family → (shape_of x).high ≤ (shape_of u).high → (shape_of y).high ≤ (shape_of u).high → (shape_of x).low ≤ (shape_of u).low → (shape_of y).low ≤ (shape_of u).low → mark_below (shape_of x).mark (shape_of u).mark → mark_below (shape_of y).mark (shape_of u).mark → value_below joined u
-  least-inside u hx hy hu f g levelled same hl hr ll lr ml mr =
+  least-inside : (u : Value) → IsValue x → IsValue y → IsValid b u → IsLevelled b u → (shape_of x).family ≡ (shape_of u).family → (shape_of x).high ≤ (shape_of u).high → (shape_of y).high ≤ (shape_of u).high → (shape_of x).low ≤ (shape_of u).low → (shape_of y).low ≤ (shape_of u).low → mark_below (shape_of x).mark (shape_of u).mark → mark_below (shape_of y).mark (shape_of u).mark → value_below joined u
+  least-inside u hx hy hu levelled same hl hr ll lr ml mr =
       let r = raised hx hy in
       let listed = in-bounds b (shape_of u).low bounds levelled.low in
       let most = up.least (shape_of u).low listed (omega arith) in
       let low-most : (shape_of joined).low ≤ (shape_of u).low = rw r.low' most in
       from-shapes joined u (kept hx).0 hu.0 (inr (r.family ∙ same, r.least (shape_of u).high levelled.high (omega arith), low-most, subst (λ k. mark_below k (shape_of u).mark) (sym r.mark') (shared-least (shape_of x).mark (shape_of y).mark mark (shape_of u).mark shared ml mr)))
 
-  least : (u : Value) → IsValid b x → IsValid b y → IsValid b u → value_below x u → value_below y u → value_below joined u
+  -- two numbers without a shared mark are not below one Const
+  no-const : (c : ℕ) → value_below x (Const c) → value_below y (Const c) → ⊥
+  no-const c f g =
+      let left : (shape_of x).mark ≡ Some (0, c) = ap (λ v. (shape_of v).mark) f in
+      let right : (shape_of y).mark ≡ Some (0, c) = ap (λ v. (shape_of v).mark) g in
+      let none = unmarked (ap (λ v. (shape_of v).family) f) in
+      elim shared [ inl p ↦ cc | inr q ↦ q.0 (left ∙ sym right) ]
+
+  least : (u : Value) → IsValue x → IsValue y → IsValid b u → value_below x u → value_below y u → value_below joined u
   least u hx hy hu f g =
-      elim (to-shapes x u hx.0 hu.0 f) [
+      elim (to-shapes x u hx hu.0 f) [
         | inl any ↦ from-shapes joined u (kept hx).0 hu.0 (inl any)
-        | inr p ↦ elim (to-shapes y u hy.0 hu.0 g) [
+        | inr p ↦ elim (to-shapes y u hy hu.0 g) [
           | inl any ↦ from-shapes joined u (kept hx).0 hu.0 (inl any)
           | inr q ↦ elim (levels b u hu) [
-            | inl const ↦
-                let l : x ≡ Const const.0 = subst (λ v. value_below x v) const.1 f in
-                let k : y ≡ Const const.0 = subst (λ v. value_below y v) const.1 g in
-                absurd (differ (l ∙ sym k))
-            | inr levelled ↦ least-inside u hx hy hu f g levelled p.0 p.1 q.1 p.2 q.2 p.3 q.3
+            | inl const ↦ absurd (no-const const.0 (subst (λ v. value_below x v) const.1 f) (subst (λ v. value_below y v) const.1 g))
+            | inr levelled ↦ least-inside u hx hy hu levelled p.0 p.1 q.1 p.2 q.2 p.3 q.3
           ]
         ]
       ]
 
-  pub joins-raised : Joins b x y joined
+  joins-raised : Joins b x y joined
   joins-raised = record {
     kept = kept;
-    join = λ hx hy. record { valid = kept hx; above_left = above-left hx hy; above_right = above-right hx hy; least = λ u hu f g. least u hx hy hu f g };
+    least = λ hx hy. record { valid = kept hx; above_left = above-left hx hy; above_right = above-right hx hy; least = λ u hu f g. least u hx hy hu f g };
   }
 
+-- a number with a mark is a Const
+number-mark : (x : Value) → (shape_of x).family ≡ fam.Number → ((c : ℕ) × (x ≡ Const c)) ⊎ ((shape_of x).mark ≡ None)
+number-mark (Const c) f = inl (c, refl)
+number-mark Num f = inr refl
+number-mark (Below k) f = inr refl
+number-mark (Low k) f = inr refl
+number-mark (Both k) f = inr refl
+number-mark _ f = cc
+
+joins-family : (b : List ℕ) (x y : Value) (low : ℕ) (mark : Option (ℕ × ℕ)) → IsBounds b → (shape_of x).family ≡ (shape_of y).family → IsLeastFrom b (max (shape_of x).low (shape_of y).low) low → IsShared (shape_of x).mark (shape_of y).mark mark → Joins b x y (value_in (shape_of x).family (max (shape_of x).high (shape_of y).high) low mark)
+joins-family b x y low mark bounds family up shared =
+    elim (is-number (shape_of x).family) [
+      | inr other ↦ joins-raised b x y low mark bounds family up shared (λ e. absurd (other e))
+      | inl number ↦ elim shared [
+        | inr q ↦ joins-raised b x y low mark bounds family up (inr q) (λ e. q.1)
+        | inl p ↦ elim (number-mark x number) [
+          | inr none ↦ joins-raised b x y low mark bounds family up (inl p) (λ e. p.1 ∙ none)
+          | inl const ↦
+              let marked : (shape_of x).mark ≡ Some (0, const.0) = ap (λ v. (shape_of v).mark) const.1 in
+              let other : y ≡ Const const.0 = const-told const.0 y (sym family ∙ number) (sym p.0 ∙ marked) in
+              let is : value_in (shape_of x).family (max (shape_of x).high (shape_of y).high) low mark ≡ Const const.0 = rw (number, p.1 ∙ marked) refl in
+              constants const.0 const.1 other is
+        ]
+      ]
+    ]
+  where
+    constants : {v : Value} (c : ℕ) → x ≡ Const c → y ≡ Const c → v ≡ Const c → Joins b x y v
+    constants {v} c f g h = rw (f, g, h) (joins-const b c)
+
+-- the join is what it has to be
+pub joins : (b : List ℕ) (x y : Value) → IsBounds b → Joins b x y (join b x y)
+joins b x y bounds = go (same_family (shape_of x).family (shape_of y).family) refl
+  where
+    bounded : (o : Option ℕ) → first_from (max (shape_of x).low (shape_of y).low) b ≡ o → (shape_of x).family ≡ (shape_of y).family → Joins b x y (value_up_to o (shape_of x).family (max (shape_of x).high (shape_of y).high) (shared_mark (shape_of x).mark (shape_of y).mark))
+    bounded None none family = joins-none b x y bounds none
+    bounded (Some low) some family = joins-family b x y low (shared_mark (shape_of x).mark (shape_of y).mark) bounds family (first-is-up (max (shape_of x).low (shape_of y).low) low b bounds.ascending some) (marks-shared (shape_of x).mark (shape_of y).mark)
+
+    go : (t : Bool) → same_family (shape_of x).family (shape_of y).family ≡ t → Joins b x y (if t then value_up_to (first_from (max (shape_of x).low (shape_of y).low) b) (shape_of x).family (max (shape_of x).high (shape_of y).high) (shared_mark (shape_of x).mark (shape_of y).mark) else Any)
+    go true e = bounded (first_from (max (shape_of x).low (shape_of y).low) b) refl (family-told (shape_of x).family (shape_of y).family e)
+    go false e = joins-apart b x y (λ same. apart same)
+      where
+        apart : (shape_of x).family ≡ (shape_of y).family → ⊥
+        apart same =
+            let is : same_family (shape_of x).family (shape_of y).family ≡ true = subst (λ (f : Family). same_family (shape_of x).family f ≡ true) same (family-same (shape_of x).family) in
+            cc
+
+-- ---- the code's answers
+
 module _ (b : List ℕ) (x y : Value) (s t : Shape) (is_s : s ≡ shape_of x) (is_t : t ≡ shape_of y) where
-  abbrev Maxes : Shape → Shape → ℕ → Type 0
-  Maxes s t k = k ≡ max s.low t.low
+  by-shapes : (v : Value) → v ≡ joined_shapes b s t → v ≡ join b x y
+  by-shapes v is = is ∙ rw (is_s, is_t) refl
 
-  pub answers-apart : s.family ≢ t.family → Joins b x y Any
-  answers-apart apart = joins-apart b x y (λ e. apart (ap (λ v. v.family) is_s ∙ e ∙ sym (ap (λ v. v.family) is_t)))
+  pub answers-apart : s.family ≢ t.family → Any ≡ join b x y
+  answers-apart apart = by-shapes Any (go (same_family s.family t.family) refl)
+    where
+      go : (test : Bool) → same_family s.family t.family ≡ test → Any ≡ joined_shapes b s t
+      go true e = absurd (apart (family-told s.family t.family e))
+      go false e = rw e refl
 
-  pub answers-none : (k : ℕ) → IsBounds b → k ≡ max s.low t.low → None ≡ first_from k b → Joins b x y Any
-  answers-none k bounds is none =
-      let low : k ≡ max (shape_of x).low (shape_of y).low = rw (sym is_s, sym is_t) is in
-      joins-none b x y bounds (ap (λ j. first_from j b) (sym low) ∙ sym none)
+  one-family : (v : Value) → s.family ≡ t.family → v ≡ value_up_to (first_from (max s.low t.low) b) s.family (max s.high t.high) (shared_mark s.mark t.mark) → v ≡ joined_shapes b s t
+  one-family v family is =
+      let test : same_family s.family t.family ≡ true = subst (λ (f : Family). same_family s.family f ≡ true) family (family-same s.family) in
+      is ∙ rw test refl
 
-  pub answers-raised : (k high low : ℕ) (mark : Option (ℕ × ℕ)) (v : Value) → IsBounds b → x ≢ y → s.family ≡ t.family → k ≡ max s.low t.low → Some low ≡ first_from k b → high ≡ max s.high t.high → IsShared s.mark t.mark mark → v ≡ value_of record { family = s.family; high = high; low = low; mark = mark } → Joins b x y v
-  answers-raised k high low mark v bounds differ family is some tops shared value =
-      let k-is : k ≡ max (shape_of x).low (shape_of y).low = rw (sym is_s, sym is_t) is in
-      let up = first-is-up (max (shape_of x).low (shape_of y).low) low b bounds.ascending (ap (λ j. first_from j b) (sym k-is) ∙ sym some) in
-      let families : (shape_of x).family ≡ (shape_of y).family = rw (sym is_s, sym is_t) family in
-      let marks : IsShared (shape_of x).mark (shape_of y).mark mark = rw (sym is_s, sym is_t) shared in
-      let is-v : v ≡ value_in (shape_of x).family (max (shape_of x).high (shape_of y).high) low mark = value ∙ rw (sym is_s, sym is_t) (rw tops refl) in
-      subst (λ u. Joins b x y u) (sym is-v) (joins-raised b x y low mark bounds differ families up marks)
+  pub answers-none : (k : ℕ) → s.family ≡ t.family → k ≡ max s.low t.low → None ≡ first_from k b → Any ≡ join b x y
+  answers-none k family is none =
+      let found : first_from (max s.low t.low) b ≡ None = ap (λ j. first_from j b) (sym is) ∙ sym none in
+      by-shapes Any (one-family Any family (rw found refl))
+
+  pub answers-raised : (k high low : ℕ) (mark : Option (ℕ × ℕ)) (v : Value) → s.family ≡ t.family → k ≡ max s.low t.low → Some low ≡ first_from k b → high ≡ max s.high t.high → mark ≡ shared_mark s.mark t.mark → v ≡ value_of record { family = s.family; high = high; low = low; mark = mark } → v ≡ join b x y
+  answers-raised k high low mark v family is some tops shared value =
+      let found : first_from (max s.low t.low) b ≡ Some low = ap (λ j. first_from j b) (sym is) ∙ sym some in
+      by-shapes v (one-family v family (value ∙ rw (found, tops, shared) refl))

@@ -10,7 +10,8 @@ use Rattle.vw_values.specs.declared.value.Value.{Value}
 use Rattle.vw_values.specs.declared.value.Value.TheVariants.{Num, Below, Low, Both, Index16, EntryTyped, TagOf}
 use Rattle.vw_values.specs.declared.value.Via.TheVariants.{At, Idx}
 use Rattle.vw_values.specs.Bounds.{IsBounds, first_from}
-use Rattle.vw_values.specs.Values.{IsValue, IsValid, value_below}
+use Rattle.vw_values.specs.Values.{IsValue, IsValid, IsNumber, value_below}
+use Rattle.vw_values.specs.Joins.{join}
 use Rattle.vw_values.specs.Rank.{value_rank}
 use Rattle.vw_values.specs.Sums.{add, subtract}
 use Rattle.vw_values.specs.Narrowing.{narrow32, narrow}
@@ -60,13 +61,32 @@ OrderIsTransitive =
     (x y z : Value) → IsValue x → IsValue y → IsValue z
     → value_below x y → value_below y z → value_below x z
 
+-- the join of values in their ranges is the least valid value above both, whatever bounds they name
+abbrev pub JoinsAreLeast : Type 0
+JoinsAreLeast =
+    (b : List ℕ) (x y : Value)
+    → IsBounds b → IsValue x → IsValue y → IsJoin value_below (IsValid b) x y (join b x y)
+
 -- joins rise with what is joined
 abbrev pub JoinsRise : Type 0
 JoinsRise =
+    (b : List ℕ) (x x' y y' : Value)
+    → IsBounds b → IsValue x → IsValue x' → IsValue y → IsValue y'
+    → value_below x x' → value_below y y' → value_below (join b x y) (join b x' y')
+
+-- so do least values above two, whatever list the bounds are
+abbrev pub LeastBoundsRise : Type 0
+LeastBoundsRise =
     (b : List ℕ) (x x' y y' low high : Value)
-    → IsValid b x → IsValid b x' → IsValid b y → IsValid b y'
+    → IsValue x → IsValue x' → IsValue y → IsValue y'
     → IsJoin value_below (IsValid b) x y low → IsJoin value_below (IsValid b) x' y' high
     → value_below x x' → value_below y y' → value_below low high
+
+-- the join of two numbers is a number
+abbrev pub NumbersJoin : Type 0
+NumbersJoin =
+    (b : List ℕ) (x y : Value)
+    → IsBounds b → IsValue x → IsValue y → IsNumber x → IsNumber y → IsNumber (join b x y)
 
 -- a value rises at most eight times more often than there are bounds
 abbrev pub RanksAreSmall : Type 0

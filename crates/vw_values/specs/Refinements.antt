@@ -8,13 +8,26 @@ use Rattle.vw_values.specs.declared.value.Value.TheVariants.{Any, Num, Const, Be
 use Rattle.vw_values.specs.Bounds.{first_from}
 
 -- what is left of a number other than a Const where all its bits are below u: the greatest number that is below it and
--- below Below u
+-- below Below u; a Const, a symbol and Any are not asked for, and stay
 abbrev pub cut_whole : ℕ → Value → Value
 cut_whole u (Below j) = Below (min j u)
 cut_whole u (Low j) = if nat_le u (2 ^ 32) then Below (min j u) else Both j
 cut_whole u (Both j) = if nat_le u (2 ^ 32) then Below (min j u) else Both j
 cut_whole u Num = Below u
-cut_whole u v = v
+cut_whole u Any = Any
+cut_whole u (Const c) = Const c
+cut_whole u HeapBase = HeapBase
+cut_whole u HeapAddr = HeapAddr
+cut_whole u Globals = Globals
+cut_whole u (Entry r) = Entry r
+cut_whole u (Image a) = Image a
+cut_whole u (Index16 j mark) = Index16 j mark
+cut_whole u (EntryPtr t) = EntryPtr t
+cut_whole u (EntryTyped t g) = EntryTyped t g
+cut_whole u (TagOf t via) = TagOf t via
+cut_whole u (TableFn t g) = TableFn t g
+cut_whole u (JumpOff a j) = JumpOff a j
+cut_whole u (JumpDest a j) = JumpDest a j
 
 -- the same where its low 32 bits are below u, which is below 2 ^ 32: the greatest number below it and below Low u
 abbrev pub cut_half : ℕ → Value → Value
@@ -22,7 +35,20 @@ cut_half u (Below j) = if nat_le j (2 ^ 32) then Below (min j u) else Both u
 cut_half u (Low j) = Low (min j u)
 cut_half u (Both j) = Both (min j u)
 cut_half u Num = Low u
-cut_half u v = v
+cut_half u Any = Any
+cut_half u (Const c) = Const c
+cut_half u HeapBase = HeapBase
+cut_half u HeapAddr = HeapAddr
+cut_half u Globals = Globals
+cut_half u (Entry r) = Entry r
+cut_half u (Image a) = Image a
+cut_half u (Index16 j mark) = Index16 j mark
+cut_half u (EntryPtr t) = EntryPtr t
+cut_half u (EntryTyped t g) = EntryTyped t g
+cut_half u (TagOf t via) = TagOf t via
+cut_half u (TableFn t g) = TableFn t g
+cut_half u (JumpOff a j) = JumpOff a j
+cut_half u (JumpDest a j) = JumpDest a j
 
 -- the number stays where there is no bound, and at 32 bits where the bound is not below 2 ^ 32
 abbrev pub cut : Width → Option ℕ → Value → Value

@@ -5,7 +5,7 @@ use crate::Value;
 
 /// What an operation on numbers sees of a value: this number, a number below a bound, any number, or a value that is no
 /// number.
-#[derive(Clone, Copy, Debug, PartialEq, Eq)]
+#[derive(Clone, Copy)]
 pub enum Extent {
     Exactly(u64),
     Under(u64),

@@ -1,6 +1,6 @@
 //! What holds of all values, each the contract of a function that does nothing.
 
-ghost use Rattle.vw_values.specs.Laws.{GreaterStandsForMore, StandsAcrossRegisters, TagsTypeAddresses, TagsMarkIndices, OrderIsReflexive, OrderIsTransitive, OrderIsAntisymmetric, JoinsRise, RanksAreSmall};
+ghost use Rattle.vw_values.specs.Laws.{GreaterStandsForMore, StandsAcrossRegisters, TagsTypeAddresses, TagsMarkIndices, OrderIsReflexive, OrderIsTransitive, OrderIsAntisymmetric, JoinsAreLeast, NumbersJoin, JoinsRise, LeastBoundsRise, RanksAreSmall};
 ghost use Rattle.vw_values.specs.Laws.{SumsAreValid, SumsRise, SumsStand, DifferencesAreValid, DifferencesRise, DifferencesStand};
 ghost use Rattle.vw_values.specs.Laws.{LowsAreValid, LowsRise, LowsStand, NarrowsAreValid, NarrowsRise, NarrowsStand};
 ghost use Rattle.vw_values.specs.Laws.{AndsAreValid, AndsRise, AndsStand, ScalesAreValid, ScalesRise, ScalesStand, ShiftsAreValid, ShiftsRise, ShiftsStand};
@@ -25,9 +25,17 @@ pub fn tag_tests_are_sound()
     ensures indices { TagsMarkIndices }
 {}
 
+/// The join of values in their ranges is the least valid value above both, whatever bounds they name, and a number where
+/// both are numbers.
+pub fn joins_are_least()
+    ensures least { JoinsAreLeast }
+    ensures numbers { NumbersJoin }
+{}
+
 /// The join of greater values is greater.
 pub fn joins_rise()
-    ensures { JoinsRise }
+    ensures rise { JoinsRise }
+    ensures bounds { LeastBoundsRise }
 {}
 
 /// A value rises at most eight times more often than there are bounds.

@@ -23,8 +23,8 @@ mod value;
 pub use bounds::{Bounds, pow};
 pub use laws::{
     ands_are_sound, below_is_greatest, below_is_sound, differences_are_sound, equal_is_sound,
-    joins_rise, low_bits_are_sound, multiples_are_sound, ranks_are_small, sums_are_sound,
-    tag_tests_are_sound, values_are_ordered, values_stand,
+    joins_are_least, joins_rise, low_bits_are_sound, multiples_are_sound, ranks_are_small,
+    sums_are_sound, tag_tests_are_sound, values_are_ordered, values_stand,
 };
 pub use masks::and;
 pub use narrowing::{narrow, narrow32};
@@ -32,6 +32,3 @@ pub use refinement::{below, equal};
 pub use scales::{scale, shl4};
 pub use sums::{TableList, add, subtract};
 pub use value::{Value, Via};
-
-#[cfg(test)]
-mod tests;

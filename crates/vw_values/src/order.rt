@@ -1,7 +1,8 @@
-ghost use Rattle.std.specs.Prelude.{◌≡◌, ◌≢◌, ◌↔◌, IsTrue, false};
-ghost use Rattle.vw_values.specs.Values.{IsNumber, IsValid, under_below, under_both, under_low, value_below};
+ghost use Rattle.std.specs.Prelude.{◌≡◌, ◌≢◌, ◌↔◌, IsTrue, false, IfOk, OnOk};
+ghost use Rattle.vw_values.specs.Values.{IsNumber, IsValid, mark_below, under_below, under_both, under_heap, under_index, under_jump_dest, under_jump_off, under_low, under_pointer, value_below};
+ghost use Rattle.vw_lattice.specs.Order.{IsJoin, TellsChange};
 ghost use Rattle.vw_values.specs.Rank.{value_rank};
-ghost use Rattle.vw_values.specs.Joins.{Joins, IsShared};
+ghost use Rattle.vw_values.specs.Joins.{join, shared_mark};
 ghost use Rattle.vw_values.specs.OrderLaws.{reflexive, transitive, antisymmetric, rank_falls, rank_strict};
 
 use crate::shape::{Shape, shape_of, value_of};
@@ -13,7 +14,7 @@ const WHOLE: u64 = 0x1_0000_0000;
 
 // The mark that both have, where they have one.
 fn shared_mark(m: Option<(u32, u64)>, n: Option<(u32, u64)>) -> Option<(u32, u64)>
-    ensures { IsShared m n result }
+    ensures { result ≡ shared_mark m n }
 {
     if m == n { m } else { None }
 }
@@ -35,11 +36,8 @@ fn are_apart(s: Shape, t: Shape) -> bool
 
 // The least value above both: that of the raised bounds where both are of one family, else Any.
 fn join_of(a: Value, b: Value, bounds: &Bounds) -> Value
-    ensures { Joins bounds.now a b result }
+    ensures { result ≡ join bounds.now a b }
 {
-    if same(a, b) {
-        return a;
-    }
     let s = shape_of(a);
     let t = shape_of(b);
     if are_apart(s, t) {
@@ -76,24 +74,11 @@ impl Lattice for Value {
             Value::Below(k) => is_under_below(k, low),
             Value::Low(k) => is_under_low(k, low),
             Value::Both(k) => is_under_both(k, low),
-            Value::HeapAddr => matches!(low, Value::HeapBase | Value::HeapAddr),
-            Value::Index16 { k, mark } => match low {
-                Value::Index16 { k: j, mark: other } => j <= k && (mark.is_none() || other == mark),
-                _ => false,
-            },
-            Value::EntryPtr(t) => match low {
-                Value::EntryPtr(u) => u == t,
-                Value::EntryTyped { table, tag: _ } => table == t,
-                _ => false,
-            },
-            Value::JumpOff { a, k } => match low {
-                Value::JumpOff { a: b, k: j } => b == a && j <= k,
-                _ => false,
-            },
-            Value::JumpDest { a, k } => match low {
-                Value::JumpDest { a: b, k: j } => b == a && j <= k,
-                _ => false,
-            },
+            Value::HeapAddr => is_under_heap(low),
+            Value::Index16 { k, mark } => is_under_index(k, mark, low),
+            Value::EntryPtr(t) => is_under_pointer(t, low),
+            Value::JumpOff { a, k } => is_under_jump_off(a, k, low),
+            Value::JumpDest { a, k } => is_under_jump_dest(a, k, low),
             Value::Const(_)
             | Value::HeapBase
             | Value::Globals
@@ -101,15 +86,23 @@ impl Lattice for Value {
             | Value::Image(_)
             | Value::EntryTyped { .. }
             | Value::TagOf { .. }
-            | Value::TableFn { .. } => low == *other,
+            | Value::TableFn { .. } => same(low, *other),
         }
     }
 
-    fn join(&mut self, other: &Self, bounds: &Bounds) -> Result<bool, OutOfMemory> {
+    /// The new value is the join of the old one and the other, whatever their bounds.
+    fn join(&mut self, other: &Self, bounds: &Bounds) -> Result<bool, OutOfMemory>
+        ensures equal { self.new ≡ join bounds.now self.old other.now }
+        ensures kept { IsValid bounds.now self.old → IsValid bounds.now self.new }
+        ensures join { OnOk result (IsValid bounds.now self.old → IsValid bounds.now other.now
+            → IsJoin value_below (IsValid bounds.now) self.old other.now self.new) }
+        ensures changed { IfOk result (λ changed. TellsChange changed self.old self.new) }
+    {
+        bounds.are_bounds();
         let before = *self;
         let after = join_of(before, *other, bounds);
         *self = after;
-        Ok(after != before)
+        Ok(!same(after, before))
     }
 
     fn copy(&self) -> Result<Self, OutOfMemory> {
@@ -164,6 +157,55 @@ fn is_under_both(k: u64, v: Value) -> bool
     match v {
         Value::Const(c) => c < 2 * WHOLE && c % WHOLE < k,
         Value::Below(j) | Value::Both(j) => j <= k,
+        _ => false,
+    }
+}
+
+fn is_under_heap(v: Value) -> bool
+    ensures { IsTrue result ↔ under_heap v }
+{
+    matches!(v, Value::HeapBase | Value::HeapAddr)
+}
+
+fn is_mark_below(m: Option<(u32, u64)>, mark: Option<(u32, u64)>) -> bool
+    ensures { IsTrue result ↔ mark_below m mark }
+{
+    mark.is_none() || m == mark
+}
+
+fn is_under_index(k: u64, mark: Option<(u32, u64)>, v: Value) -> bool
+    ensures { IsTrue result ↔ under_index k mark v }
+{
+    match v {
+        Value::Index16 { k: j, mark: other } => j <= k && is_mark_below(other, mark),
+        _ => false,
+    }
+}
+
+fn is_under_pointer(t: u32, v: Value) -> bool
+    ensures { IsTrue result ↔ under_pointer t v }
+{
+    match v {
+        Value::EntryPtr(u) => u == t,
+        Value::EntryTyped { table, tag: _ } => table == t,
+        _ => false,
+    }
+}
+
+fn is_under_jump_off(a: u64, k: u64, v: Value) -> bool
+    ensures { IsTrue result ↔ under_jump_off a k v }
+{
+    match v {
+        Value::JumpOff { a: b, k: j } => b == a && j <= k,
+        _ => false,
+    }
+}
+
+fn is_under_jump_dest(a: u64, k: u64, v: Value) -> bool
+    ensures { IsTrue result ↔ under_jump_dest a k v }
+{
+    match v {
+        Value::JumpDest { a: b, k: j } => b == a && j <= k,
         _ => false,
     }
 }

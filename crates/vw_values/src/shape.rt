@@ -4,7 +4,7 @@ ghost use Rattle.vw_values.specs.Shapes.{shape_of, value_of, number_of, value_of
 use crate::{Value, Via};
 
 /// What values can be joined without losing everything: values of two families have no bound but Any.
-#[derive(Clone, Copy, Debug, PartialEq, Eq)]
+#[derive(Clone, Copy, PartialEq, Eq)]
 pub enum Family {
     Any,
     Number,
@@ -22,7 +22,7 @@ pub enum Family {
 
 /// A value as its family and bounds within it. A number's high half is at most `high`, and its low
 /// half is below `low`.
-#[derive(Clone, Copy, Debug, PartialEq, Eq)]
+#[derive(Clone, Copy)]
 pub struct Shape {
     pub family: Family,
     pub high: u64,

@@ -1,5 +1,5 @@
 use Rattle.std.proofs.Common.{◌≡◌, ◌+◌, ◌-◌, ℕ, [], List, subst, arith}
-use Rattle.vw_solver.proofs.Search.{Laws, Progress, visits_step, finish, finish_reached, finish_ticks, all_wait}
+use Rattle.vw_solver.proofs.Search.{Laws, Progress, visits_step, finish, finish_reached, finish_ticks, within_bound, failed_bound, all_wait}
 use Rattle.vw_solver.proofs.Seeds.{seed_progress}
 use Rattle.vw_solver.proofs.solution.resume.Given.{Over}
 use Rattle.vw_solver.proofs.solution.resume.Goals as goal
@@ -62,3 +62,14 @@ returns-clause-ticks g c = λ start first seed most at_most.
     let weight = g.E.Equations.weight c.args.equations.now in
     let paid = finish_ticks g.E.State.Lattice.below (g.E.State.Lattice.valid (g.E.Equations.bounds c.args.equations.now)) (g.E.State.Lattice.rank (g.E.Equations.bounds c.args.equations.now)) (g.E.Equations.edges c.args.equations.now) (g.E.Equations.weight c.args.equations.now) (g.E.Equations.points c.args.equations.now) start first (laws_of g c.args.equations.now) c.settle.new.states ticks done most at_most in
     omega (arith, paid, c.rounds.invariant.counts, c.in_ok-met.ensures.counts)
+
+pub returns-clause-bound : goal.returns-clause-bound
+returns-clause-bound g c = λ start first seed most at_most.
+    let run = visits_step g.E.State.Lattice.below (g.E.State.Lattice.valid (g.E.Equations.bounds c.args.equations.now)) (g.E.State.Lattice.rank (g.E.Equations.bounds c.args.equations.now)) (g.E.Equations.edges c.args.equations.now) (g.E.Equations.weight c.args.equations.now) (g.E.Equations.points c.args.equations.now) start first (laws_of g c.args.equations.now) c.rounds.states c.rounds.waiting.keys (c.rounds.steps - c.args.steps.now) (c.settle.new.steps - c.rounds.steps) c.settle.new.states c.settle.new.waiting.keys (c.rounds.invariant.run start first seed) c.in_ok-met.ensures.visits in
+    let bound = within_bound g.E.State.Lattice.below (g.E.State.Lattice.valid (g.E.Equations.bounds c.args.equations.now)) (g.E.State.Lattice.rank (g.E.Equations.bounds c.args.equations.now)) (g.E.Equations.edges c.args.equations.now) (g.E.Equations.weight c.args.equations.now) (g.E.Equations.points c.args.equations.now) start first (laws_of g c.args.equations.now) c.settle.new.states c.settle.new.waiting.keys ((c.rounds.steps - c.args.steps.now) + (c.settle.new.steps - c.rounds.steps)) run most at_most in
+    omega (arith, bound, c.rounds.invariant.counts, c.in_ok-met.ensures.counts)
+
+pub returns-in_err-met-clause-bound : goal.returns-in_err-met-clause-bound
+returns-in_err-met-clause-bound g c = λ start first seed most at_most.
+    let bound = failed_bound g.E.State.Lattice.below (g.E.State.Lattice.valid (g.E.Equations.bounds c.args.equations.now)) (g.E.State.Lattice.rank (g.E.Equations.bounds c.args.equations.now)) (g.E.Equations.edges c.args.equations.now) (g.E.Equations.weight c.args.equations.now) (g.E.Equations.points c.args.equations.now) start first (laws_of g c.args.equations.now) c.rounds.states c.rounds.waiting.keys (c.rounds.steps - c.args.steps.now) (c.settle.new.steps - c.rounds.steps) (c.rounds.invariant.run start first seed) c.in_err-met.ensures.failed most at_most in
+    omega (arith, bound, c.rounds.invariant.counts, c.in_err-met.ensures.counts)
