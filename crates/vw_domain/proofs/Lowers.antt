@@ -1,58 +1,53 @@
 -- A lower state says more, and stands for less.
-use Rattle.std.proofs.Common.{◌≡◌, ◌≢◌, ℕ, ◌+◌, ◌^◌, ◌<◌, ◌≤◌, ◌⊎◌, List, [], ◌∷◌, length, refl, sym, ap, subst, ◌∙◌, arith, rules, Some, None, inl, inr, Bool, true, false, ◌&&◌, ◌||◌, IsTrue, nat_lt, is_some, eq-eqb}
+use Rattle.std.proofs.Common.{◌≡◌, ℕ, ◌⊎◌, List, refl, sym, ap, subst, ◌∙◌, arith, Some, None, inl, inr, Bool, true, false, ◌&&◌, ◌||◌, not, is_some, eq-eqb}
 use Rattle.std.proofs.lemmas.Bool.{eqb-true}
 use Rattle.std.proofs.lemmas.Bool.Decides.{Decides-int_eq}
 use Rattle.vw_bits.specs.Fields.{load}
-use Rattle.std.proofs.lemmas.Int.{ints}
-use Rattle.std.specs.Prelude.{ℤ, Option, if◌then◌else◌}
-use Rattle.std.specs.Ordering.{int_eq}
-use Rattle.vw_lattice.specs.Entries.{value_at, HasKey, map_below, IsBelowAt}
-use Rattle.vw_locals.specs.Ranges.{is_written}
+use Rattle.std.specs.Prelude.{ℤ, Option}
+use Rattle.vw_lattice.specs.Entries.{value_at, map_below}
 use Rattle.vw_names.specs.declared.spot.Spot.{Spot}
 use Rattle.vw_names.specs.declared.spot.Spot.TheVariants.{Reg, Flags, Slot}
-use Rattle.vw_names.specs.Division.{root, Same, division_below}
+use Rattle.vw_names.specs.Division.{Same}
 use Rattle.vw_names.specs.Spot.{slot_number}
 use Rattle.vw_stack.specs.Stack.{offset_below}
 use Rattle.vw_stack.specs.declared.offset.Offset.{Offset}
 use Rattle.vw_stack.specs.declared.offset.Offset.TheVariants as offset
 use Rattle.vw_values.specs.declared.value.Value.{Value}
-use Rattle.vw_values.specs.declared.value.Value.TheVariants.{Any, Num, Const, Below, Low, Both, HeapBase, HeapAddr, Globals, Entry, Image, Index16, EntryPtr, EntryTyped, TagOf, TableFn, JumpOff, JumpDest}
-use Rattle.vw_values.specs.declared.value.Via.{Via}
-use Rattle.vw_values.specs.declared.value.Via.TheVariants.{At, Idx}
-use Rattle.vw_values.specs.Values.{IsValue, value_below, under_pointer, under_index}
-use Rattle.vw_values.specs.Stands.{Instance, Stands}
+use Rattle.vw_values.specs.Values.{value_below}
+use Rattle.vw_values.specs.Stands.{Stands}
 use Rattle.vw_values.specs.Laws.{GreaterStandsForMore}
 use Rattle.vw_insn.specs.Words.{Flags as StatusFlags}
 use Rattle.vw_domain.specs.declared.parts.Fact.{Fact}
 use Rattle.vw_domain.specs.declared.parts.Fact.TheVariants as fact
 use Rattle.vw_domain.specs.declared.parts.Parts.{Parts}
-use Rattle.vw_domain.specs.Registers.{register_at, row_below}
 use Rattle.vw_domain.specs.State.{fact_below, wide_key, narrow_key, AreSlots, IsState, state_below}
-use Rattle.vw_domain.specs.Abstract.{Abstract, abstract_of, is_place, IsSpot, slot_key, slot_size, value_or_any, value_of, is_there, class_number, is_same, IsBelow}
-use Rattle.vw_domain.specs.Stands.{Machine, address_at, OffsetStands, content, FactStands, IsEntryAddress, IsEntryIndex, StandsFor, LowerStandsForLess, LowerSaysMore}
+use Rattle.vw_domain.specs.Abstract.{abstract_of, is_place, slot_key, slot_size, value_or_any, value_of, is_there, class_number, is_same, IsBelow}
+use Rattle.vw_domain.specs.Stands.{Machine, at_offset, OffsetStands, content, FactStands, StandsWith}
+use Rattle.vw_domain.proofs.Orders.{under_of}
+use Rattle.vw_domain.proofs.Lower.{clash_under, tag_under}
 
 -- ---- tests
 
-true_not_false : true ≡ false → ⊥
+pub true_not_false : true ≡ false → ⊥
 true_not_false same = cc
 
-and_both : (a b : Bool) → (a && b) ≡ true → (a ≡ true) × (b ≡ true)
+pub and_both : (a b : Bool) → (a && b) ≡ true → (a ≡ true) × (b ≡ true)
 and_both true b h = (refl, h)
 and_both false b h = absurd (true_not_false (sym h))
 
-both_and : (a b : Bool) → a ≡ true → b ≡ true → (a && b) ≡ true
+pub both_and : (a b : Bool) → a ≡ true → b ≡ true → (a && b) ≡ true
 both_and true b first second = second
 both_and false b first second = absurd (true_not_false (sym first))
 
-or_cases : (a b : Bool) → (a || b) ≡ true → (a ≡ true) ⊎ (b ≡ true)
+pub or_cases : (a b : Bool) → (a || b) ≡ true → (a ≡ true) ⊎ (b ≡ true)
 or_cases true b h = inl refl
 or_cases false b h = inr h
 
-or_second : (a b : Bool) → b ≡ true → (a || b) ≡ true
+pub or_second : (a b : Bool) → b ≡ true → (a || b) ≡ true
 or_second true b h = refl
 or_second false b h = h
 
-or_first : (a b : Bool) → a ≡ true → (a || b) ≡ true
+pub or_first : (a b : Bool) → a ≡ true → (a || b) ≡ true
 or_first true b h = refl
 or_first false b h = absurd (true_not_false (sym h))
 
@@ -133,7 +128,7 @@ none_there x none has = true_not_false (sym has ∙ rw none refl)
 
 -- ---- places
 
-place_same : (p q : Spot) → is_place p q ≡ true → p ≡ q
+pub place_same : (p q : Spot) → is_place p q ≡ true → p ≡ q
 place_same (Reg q) (Reg r) h = ap Reg (eqb-true q r h)
 place_same Flags Flags h = refl
 place_same (Slot a) (Slot b) h = ap Slot ((Decides-int_eq a b).0 h)
@@ -146,37 +141,16 @@ place_same (Slot a) Flags h = absurd (true_not_false (sym h))
 
 -- ---- values
 
-under_address : (t : ℕ) (v : Value) → under_pointer t v → IsEntryAddress v
-under_address t (EntryPtr u) f = tt
-under_address t (EntryTyped u g) f = tt
-under_address t _ f = absurd f
-
-under_entry_index : (k : ℕ) (mark : Option (ℕ × ℕ)) (v : Value) → under_index k mark v → IsEntryIndex v
-under_entry_index k mark (Index16 j other) f = tt
-under_entry_index k mark _ f = absurd f
-
-address_below : (v w : Value) → value_below v w → IsEntryAddress w → IsEntryAddress v
-address_below v (EntryPtr t) f is = under_address t v f
-address_below v (EntryTyped t g) f is =
-    let P : Value → Type 0 = λ u. IsEntryAddress u in
-    subst P (sym f) tt
-address_below v _ f is = absurd is
-
-index_below : (v w : Value) → value_below v w → IsEntryIndex w → IsEntryIndex v
-index_below v (Index16 k mark) f is = under_entry_index k mark v f
-index_below v _ f is = absurd is
-
-tag_below : (v w : Value) (t : ℕ) (via : Via) → value_below v w → w ≡ TagOf t via → v ≡ TagOf t via
-tag_below v w t via f same =
-    let P : Value → Type 0 = λ u. value_below v u in
-    subst P same f
+-- the number in a place of a machine's state
+abbrev content_of : Machine → (ℤ → ℕ) → ℕ → Spot → ℕ
+content_of m sizes compared p = content m.entry_rsp sizes m.registers m.byte compared p
 
 fact_stands : (a b : Fact) (x : ℕ) (flags : StatusFlags) → fact_below a b → FactStands a x flags → FactStands b x flags
 fact_stands a fact.Unknown x flags f stands = tt
 fact_stands fact.Unknown (fact.Compare w k) x flags f stands = absurd f
 fact_stands (fact.Compare u i) (fact.Compare w k) x flags f stands = rw (← f.0, ← f.1) stands
 
-offset_stands : (m : Machine) (a b : Offset) (x : ℕ) → offset_below a b → OffsetStands m a x → OffsetStands m b x
+offset_stands : (m : Machine) (a b : Offset) (x : ℕ) → offset_below a b → OffsetStands m.entry_rsp a x → OffsetStands m.entry_rsp b x
 offset_stands m a offset.Unknown x f stands = tt
 offset_stands m offset.Unknown (offset.Known c) x f stands = absurd f
 offset_stands m (offset.Known d) (offset.Known c) x f stands = rw (← f) stands
@@ -203,11 +177,11 @@ module _ (s t : Parts) (is_s : IsState s) (is_t : IsState t) (f : state_below s 
     | inr none ↦ absurd (none_there (value_at t.slots (slot_key t.slots o)) none.none h)
   ]
 
-  size_below : (p : Spot) → is_there t p ≡ true → (m : Machine) (x : ℕ) → content m (slot_size s.slots) x p ≡ content m (slot_size t.slots) x p
+  size_below : (p : Spot) → is_there t p ≡ true → (m : Machine) (x : ℕ) → content_of m (slot_size s.slots) x p ≡ content_of m (slot_size t.slots) x p
   size_below (Reg r) h m x = refl
   size_below Flags h m x = refl
   size_below (Slot o) h m x = elim (slots_at o) [
-    | inl both ↦ ap (λ (n : ℕ). load m.byte (address_at m o) n) both.size
+    | inl both ↦ ap (λ (n : ℕ). load m.byte (at_offset m.entry_rsp o) n) both.size
     | inr none ↦ absurd (none_there (value_at t.slots (slot_key t.slots o)) none.none h)
   ]
 
@@ -238,10 +212,10 @@ module _ (s t : Parts) (is_s : IsState s) (is_t : IsState t) (f : state_below s 
         or_second (is_place p q) _ (both_and (is_there s p) _ (there_below p first.0) (both_and (is_there s q) _ (there_below q second.0) (eq-eqb _ _ roots)))
   ]
 
-  value_lower : (p : Spot) → IsSpot p → value_below (value_of s p) (value_of t p)
-  value_lower (Reg r) h = (f.registers r h).value
-  value_lower Flags h = tt
-  value_lower (Slot o) h = elim (slots_at o) [
+  value_lower : (p : Spot) → value_below (value_of s p) (value_of t p)
+  value_lower (Reg r) = (f.registers r).value
+  value_lower Flags = tt
+  value_lower (Slot o) = elim (slots_at o) [
     | inl both ↦
         let P : Value → Type 0 = λ v. value_below v (value_of t (Slot o)) in
         let Q : Value → Type 0 = λ w. value_below both.lesser w in
@@ -256,7 +230,7 @@ module _ (s t : Parts) (is_s : IsState s) (is_t : IsState t) (f : state_below s 
 
   pub lower_form : IsBelow (abstract_of s) (abstract_of t)
   lower_form = record {
-    offsets = λ r h. (f.registers r h).offset;
+    offsets = λ r. (f.registers r).offset;
     values = value_lower;
     sizes = sizes_lower;
     same = same_below;
@@ -265,42 +239,42 @@ module _ (s t : Parts) (is_s : IsState s) (is_t : IsState t) (f : state_below s 
     written = f.written;
   }
 
-  module _ (greater : GreaterStandsForMore) (m : Machine) (st : StandsFor (abstract_of s) m) where
-    value_stands : (p : Spot) → IsSpot p → Stands m.instance m.registers (value_of t p) (content m (slot_size t.slots) st.compared p)
-    value_stands (Reg r) h = greater m.instance m.registers _ _ (m.registers r) (is_s.registers.registers r h).value (is_t.registers.registers r h).value (f.registers r h).value (st.values (Reg r) h)
-    value_stands Flags h = tt
-    value_stands (Slot o) h = elim (slots_at o) [
+  module _ (greater : GreaterStandsForMore) (m : Machine) (compared : ℕ) (st : StandsWith (abstract_of s) m compared) where
+    value_stands : (p : Spot) → Stands m.instance m.registers (value_of t p) (content_of m (slot_size t.slots) compared p)
+    value_stands (Reg r) = greater m.instance m.registers _ _ (m.registers r) (is_s.registers.registers r).value (is_t.registers.registers r).value (f.registers r).value (st.values (Reg r))
+    value_stands Flags = tt
+    value_stands (Slot o) = elim (slots_at o) [
       | inl both ↦
-          let number : ℕ = content m (slot_size t.slots) st.compared (Slot o) in
+          let number : ℕ = content_of m (slot_size t.slots) compared (Slot o) in
           let P : Value → Type 0 = λ v. Stands m.instance m.registers v number in
-          let Q : ℕ → Type 0 = λ n. Stands m.instance m.registers (value_of s (Slot o)) (load m.byte (address_at m o) n) in
+          let Q : ℕ → Type 0 = λ n. Stands m.instance m.registers (value_of s (Slot o)) (load m.byte (at_offset m.entry_rsp o) n) in
           subst P (sym (high_value s.slots t.slots o both))
           (greater m.instance m.registers both.lesser both.greater number (is_s.slots.values both.key both.lesser both.in_low) (is_t.slots.values both.key both.greater both.in_high) both.below
-          (subst P (low_value s.slots t.slots o both) (subst Q both.size (st.values (Slot o) tt))))
+          (subst P (low_value s.slots t.slots o both) (subst Q both.size (st.values (Slot o)))))
       | inr none ↦
-          let P : Value → Type 0 = λ v. Stands m.instance m.registers v (content m (slot_size t.slots) st.compared (Slot o)) in
+          let P : Value → Type 0 = λ v. Stands m.instance m.registers v (content_of m (slot_size t.slots) compared (Slot o)) in
           subst P (sym (ap value_or_any none.none)) tt
     ]
 
-    classes_stand : (p q : Spot) → is_same t p q ≡ true → content m (slot_size t.slots) st.compared p ≡ content m (slot_size t.slots) st.compared q
+    classes_stand : (p q : Spot) → is_same t p q ≡ true → content_of m (slot_size t.slots) compared p ≡ content_of m (slot_size t.slots) compared q
     classes_stand p q h = elim (together p q h) [
-      | inl same ↦ ap (λ (r : Spot). content m (slot_size t.slots) st.compared r) same
-      | inr both ↦ sym (size_below p both.first m st.compared) ∙ st.classes p q (same_below p q h) ∙ size_below q both.second m st.compared
+      | inl same ↦ ap (λ (r : Spot). content_of m (slot_size t.slots) compared r) same
+      | inr both ↦ sym (size_below p both.first m compared) ∙ st.classes p q (same_below p q h) ∙ size_below q both.second m compared
     ]
 
-    pub lower_stands : StandsFor (abstract_of t) m
+    pub lower_stands : StandsWith (abstract_of t) m compared
     lower_stands = record {
       start = st.start;
       end = st.end;
       depth = let deep = f.probed in let low = st.depth in omega arith;
-      offsets = λ r h. offset_stands m _ _ (m.registers r) (f.registers r h).offset (st.offsets r h);
+      offsets = λ r. offset_stands m _ _ (m.registers r) (f.registers r).offset (st.offsets r);
       written = λ c is. st.written c (f.written c is);
-      compared = st.compared;
       word = st.word;
       values = value_stands;
       classes = classes_stand;
-      fact = fact_stands s.fact t.fact st.compared m.flags f.fact st.fact;
-      apart = λ p q hp hq same entry index. st.apart p q hp hq (same_below p q same) (address_below _ _ (value_lower p hp) entry) (index_below _ _ (value_lower q hq) index);
-      addresses = λ p q k r hp hq tag same index. st.addresses p q k r hp hq (tag_below _ _ k (At r) (value_lower p hp) tag) (same_below (Reg r) q same) (index_below _ _ (value_lower q hq) index);
-      distances = λ p q k r hp hq tag same entry. st.distances p q k r hp hq (tag_below _ _ k (Idx r) (value_lower p hp) tag) (same_below (Reg r) q same) (address_below _ _ (value_lower q hq) entry);
+      fact = fact_stands s.fact t.fact compared m.flags f.fact st.fact;
+      kinds = record {
+        apart = λ at p q same first second. st.kinds.apart at p q (same_below p q same) (clash_under (not at) _ _ (under_of _ _ (value_lower p)) first) (clash_under at _ _ (under_of _ _ (value_lower q)) second);
+        tags = λ p q g tag same clash. st.kinds.tags p q g (tag_under _ _ g (under_of _ _ (value_lower p)) tag) (same_below (Reg g.register) q same) (clash_under g.at _ _ (under_of _ _ (value_lower q)) clash);
+      };
     }

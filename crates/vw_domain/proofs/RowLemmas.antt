@@ -1,18 +1,73 @@
--- A row of registers while its front is joined.
-use Rattle.std.proofs.Common.{◌≡◌, ◌≢◌, ℕ, ◌+◌, ◌<◌, ◌≤◌, List, length, refl, sym, arith, get_or-set_other, get_or-set_same, below_more}
-use Rattle.std.proofs.Math.ListN.{set}
+-- Rows of registers: what lies behind their ends, and a row while its front is joined.
+use Rattle.std.proofs.Common.{◌≡◌, ◌≢◌, ℕ, ◌+◌, ◌<◌, ◌≤◌, List, length, refl, arith, get_or-set_other, get_or-set_same, below_more, inl, inr, ap, ◌∙◌}
+use Rattle.std.proofs.Math.ListN.{set, get_or-eq_default}
+use Rattle.std.proofs.lemmas.Bool.{cases_lt}
 use Rattle.vw_lattice.specs.Order.{IsJoin}
 use Rattle.vw_domain.specs.declared.registers.Register.{Register}
-use Rattle.vw_domain.specs.Registers.{IsValidRegister, register_below, register_at, IsJoinedRow, blank}
+use Rattle.vw_domain.specs.declared.gone.Gone.{Gone}
+use Rattle.vw_domain.specs.Writes.{forgotten_register, ForgetsRow}
+use Rattle.vw_values.specs.Values.{IsAmong}
+use Rattle.vw_domain.specs.Registers.{IsValidRegister, register_below, row_below, register_at, unknown_register, IsRowAmong, IsJoinedRow, JoinsRows}
+
+-- what holds of the first n and of those behind them holds of all
+each : (P : ℕ → Type 0) (n : ℕ) → ((r : ℕ) → r < n → P r) → ((r : ℕ) → n ≤ r → P r) → (r : ℕ) → P r
+each P n front behind r = elim (cases_lt r n) [ inl less ↦ front r less | inr more ↦ behind r more ]
+
+-- nothing is known behind the last register
+pub unknown_at : (row : List Register) (r : ℕ) → length row ≤ r → register_at row r ≡ unknown_register
+unknown_at row r behind = get_or-eq_default row unknown_register behind
+
+pub all_below : (low high : List Register) → length low ≡ 17 → length high ≡ 17 → ((r : ℕ) → r < 17 → register_below (register_at low r) (register_at high r)) → row_below low high
+all_below low high a b front =
+    each (λ (r : ℕ). register_below (register_at low r) (register_at high r)) 17 front
+    (λ r behind. rw (unknown_at low r (omega arith), unknown_at high r (omega arith)) (record { offset = tt; value = tt }))
+
+pub all_among : (bounds : List ℕ) (row : List Register) → length row ≡ 17 → ((r : ℕ) → r < 17 → IsAmong bounds (register_at row r).value) → IsRowAmong bounds row
+all_among bounds row a front =
+    each (λ (r : ℕ). IsAmong bounds (register_at row r).value) 17 front (λ r behind. rw (unknown_at row r (omega arith)) tt)
+
+unknown_join : (bounds : List ℕ) → IsJoin register_below (IsValidRegister bounds) unknown_register unknown_register unknown_register
+unknown_join bounds = record {
+  valid = record { register = record { value = tt; offset = tt }; among = tt };
+  above_left = record { offset = tt; value = tt };
+  above_right = record { offset = tt; value = tt };
+  least = λ bound valid left right. left;
+}
+
+pub all_joined : (bounds : List ℕ) (left right join : List Register) → length left ≡ 17 → length right ≡ 17 → length join ≡ 17 → IsJoinedRow bounds 17 left right join → JoinsRows bounds left right join
+all_joined bounds left right join a b c front = record {
+  seventeen = c;
+  joined = each (λ (r : ℕ). IsJoin register_below (IsValidRegister bounds) (register_at left r) (register_at right r) (register_at join r)) 17 front
+      (λ r behind. rw (unknown_at left r (omega arith), unknown_at right r (omega arith), unknown_at join r (omega arith)) (unknown_join bounds));
+}
+
+pub rest_step : (i : ℕ) (left row : List Register) (v : Register) → i < length row → ((r : ℕ) → i ≤ r → register_at row r ≡ register_at left r) → (r : ℕ) → i + 1 ≤ r → register_at (set row i v) r ≡ register_at left r
+rest_step i left row v within rest r h =
+    let other : r ≢ i = omega arith in
+    rw get_or-set_other (rest r (omega arith))
 
 module _ (bounds : List ℕ) (i : ℕ) (left right row : List Register) (v : Register) (within : i < length row) where
-  pub rest_step : ((r : ℕ) → i ≤ r → register_at row r ≡ register_at left r) → (r : ℕ) → i + 1 ≤ r → register_at (set row i v) r ≡ register_at left r
-  rest_step rest r h =
-      let other : r ≢ i = omega arith in
-      rw get_or-set_other (rest r (omega arith))
-
   pub joined_step : IsJoinedRow bounds i left right row → ((r : ℕ) → i ≤ r → register_at row r ≡ register_at left r) → IsJoin register_below (IsValidRegister bounds) (register_at row i) (register_at right i) v → IsJoinedRow bounds (i + 1) left right (set row i v)
   joined_step joined rest join =
       below_more _ _
       (λ r h. let other : r ≢ i = omega arith in rw get_or-set_other (joined r h))
       (rw (get_or-set_same, ← rest i (omega arith)) join)
+
+-- ---- a row in which values are forgotten, one by one
+
+module _ (gone : Gone) (i : ℕ) (old row : List Register) (v : Register) (within : i < length row) where
+  abbrev Front : ℕ → List Register → Type 0
+  Front n xs = (r : ℕ) → r < n → register_at xs r ≡ forgotten_register gone (register_at old r)
+
+  pub forgets_step : Front i row → ((r : ℕ) → i ≤ r → register_at row r ≡ register_at old r) → v ≡ forgotten_register gone (register_at row i) → Front (i + 1) (set row i v)
+  forgets_step front rest is =
+      below_more _ _
+      (λ r h. let other : r ≢ i = omega arith in rw get_or-set_other (front r h))
+      (get_or-set_same row i v unknown_register within ∙ is ∙ ap (forgotten_register gone) (rest i (omega arith)))
+
+pub forgets_all : (gone : Gone) (old new : List Register) → length old ≡ 17 → length new ≡ 17 → ((r : ℕ) → r < 17 → register_at new r ≡ forgotten_register gone (register_at old r)) → ForgetsRow gone old new
+forgets_all gone old new a b front = record {
+  seventeen = b;
+  registers = each (λ (r : ℕ). register_at new r ≡ forgotten_register gone (register_at old r)) 17 front
+      (λ r behind. rw (unknown_at old r (omega arith), unknown_at new r (omega arith)) refl);
+}

@@ -1,8 +1,9 @@
 -- The entries of the slots, one by one.
-use Rattle.std.proofs.Common.{◌≡◌, ◌≢◌, ℕ, zero, suc, ◌+◌, ◌^◌, ◌<◌, ◌≤◌, List, [], ◌∷◌, length, get_or, refl, sym, ap, subst, ◌∙◌, arith, below_more, Some, None, inl, inr}
+use mir.Val.{SFits}
+use Rattle.std.proofs.Common.{w64, rules, ◌≡◌, ℕ, zero, suc, ◌+◌, ◌^◌, ◌<◌, ◌≤◌, List, [], ◌∷◌, length, get_or, sym, subst, arith, below_more, Some}
 use Rattle.std.proofs.lemmas.Int.{ints}
-use Rattle.std.specs.Prelude.{ℤ, pos, ◌+ℤ◌, ◌-ℤ◌, ◌<ℤ◌, ◌≤ℤ◌, Option, slice_get}
-use Rattle.vw_lattice.specs.Entries.{IsAscending, value_at, HasKey}
+use Rattle.std.specs.Prelude.{ℤ, pos, ◌+ℤ◌, ◌-ℤ◌, ◌<ℤ◌, ◌≤ℤ◌, slice_get}
+use Rattle.vw_lattice.specs.Entries.{IsAscending, HasKey}
 use Rattle.vw_lattice.specs.EntryOrder.{value_at_index, index_of}
 use Rattle.vw_values.specs.declared.value.Value.{Value}
 use Rattle.vw_values.specs.Values.{IsAmong}
@@ -64,3 +65,13 @@ not_among bounds slots i key value are found among =
     let e = entry_at slots i (key, value) found in
     let P : ℤ × Value → Type 0 = λ e. IsAmong bounds e.1 in
     subst P (e.is (key, value)) (each_among bounds slots (key, value) i are e.within among)
+
+pub key_within : (slots : List (ℤ × Value)) (i : ℕ) (key : ℤ) (value : Value) → AreSlots slots → slice_get slots i ≡ Some (key, value) → ((pos 0 -ℤ pos (2 ^ 33)) ≤ℤ key) × (key ≤ℤ pos (2 ^ 33 + 1))
+key_within slots i key value are found =
+    let e = entry_at slots i (key, value) found in
+    let P : ℤ × Value → Type 0 = λ x. ((pos 0 -ℤ pos (2 ^ 33)) ≤ℤ x.0) × (x.0 ≤ℤ pos (2 ^ 33 + 1)) in
+    subst P (e.is (key, value)) (are.within (get_or slots i (key, value)).0 (key_there slots (key, value) are i e.within))
+
+-- and so a number of 64 bits
+pub key_fits : (key : ℤ) → (pos 0 -ℤ pos (2 ^ 33)) ≤ℤ key → key ≤ℤ pos (2 ^ 33 + 1) → SFits w64 key
+key_fits key low high = first_of (search rules, omega (arith, ints), grind (arith, ints))

@@ -1,24 +1,21 @@
 -- The join of two valid states, part by part, is a valid state and their least valid upper bound.
-use Rattle.std.proofs.Common.{◌≡◌, ◌≢◌, ℕ, ◌+◌, ◌^◌, ◌<◌, ◌≤◌, ◌⊎◌, List, [], ◌∷◌, length, get_or, refl, sym, ap, subst, ◌∙◌, arith, Some, None, inl, inr, Bool, true, false, IsTrue}
-use Rattle.std.proofs.lemmas.Int.{ints}
-use Rattle.std.specs.Prelude.{ℤ, pos, ◌+ℤ◌, ◌-ℤ◌, ◌<ℤ◌, ◌≤ℤ◌, Option, ◌↔◌, min}
-use Rattle.vw_lattice.specs.Order.{IsJoin, TellsChange}
-use Rattle.vw_lattice.specs.Entries.{IsAscending, value_at, HasKey, IsValidMap, map_below, IsBelowAt}
+use Rattle.std.proofs.Common.{◌≡◌, ℕ, ◌^◌, List, [], ◌∷◌, refl, sym, subst, ◌∙◌, arith, Some, None, inl, inr, Bool, false, IsTrue}
+use Rattle.std.specs.Prelude.{ℤ, ◌↔◌}
+use Rattle.vw_lattice.specs.Order.{IsJoin}
+use Rattle.vw_lattice.specs.Entries.{value_at, HasKey, IsValidMap, map_below}
 use Rattle.vw_lattice.specs.EntryOrder.{value_at_here, value_at_there, same_or_not}
-use Rattle.vw_locals.specs.Ranges.{IsRanges, is_written}
-use Rattle.vw_names.specs.Division.{IsDivision, Same, IsRefinement}
+use Rattle.vw_names.specs.Division.{IsRefinement}
 use Rattle.vw_values.specs.declared.value.Value.{Value}
 use Rattle.vw_values.specs.declared.value.Value.TheVariants.{Any, Num, Const, Below, Low, Both, HeapBase, HeapAddr, Globals, Entry, Image, Index16, EntryPtr, EntryTyped, TagOf, TableFn, JumpOff, JumpDest}
-use Rattle.vw_values.specs.Bounds.{IsBounds, IsMember}
-use Rattle.vw_values.specs.Values.{IsValue, IsAmong, IsValid, value_below}
-use Rattle.vw_domain.specs.declared.registers.Register.{Register}
+use Rattle.vw_values.specs.Bounds.{IsBounds}
+use Rattle.vw_values.specs.Values.{IsValid, value_below}
 use Rattle.vw_domain.specs.declared.parts.Fact.{Fact}
 use Rattle.vw_domain.specs.declared.parts.Fact.TheVariants.{Unknown, Compare}
 use Rattle.vw_domain.specs.declared.parts.Parts.{Parts}
-use Rattle.vw_domain.specs.Registers.{IsRow, register_at, IsRowAmong}
-use Rattle.vw_domain.specs.State.{fact_below, IsFact, narrow_key, wide_key, IsNarrow, AreSlots, AreSlotsAmong, key_of, IsThere, IsNamed, IsInFrame, IsState, Fits, IsValidState, state_below}
+use Rattle.vw_domain.specs.Registers.{IsRowAmong}
+use Rattle.vw_domain.specs.State.{fact_below, IsFact, narrow_key, wide_key, IsNarrow, AreSlots, AreSlotsAmong, key_of, IsThere, IsNamed, IsState, Fits, IsValidState, state_below}
 use Rattle.vw_domain.specs.StateOrder.{state_reflexive, valid_row, valid_slots}
-use Rattle.vw_domain.specs.StateJoin.{JoinsParts, IsFactJoin}
+use Rattle.vw_domain.specs.StateJoin.{JoinsParts}
 
 -- ---- slots of four bytes
 
@@ -143,7 +140,7 @@ fact_kept (Compare u i) (Compare w k) f v = rw (← f.0, ← f.1) v
 module _ (bounds : List ℕ) (are : IsBounds bounds) (x y j : Parts) (v : IsValidState bounds x) (w : IsValidState bounds y) (joins : JoinsParts bounds x y j) where
   pub join_is_state : IsState j
   join_is_state = record {
-    registers = record { sixteen = joins.registers.sixteen; registers = λ r h. (joins.registers.joined r h).valid.register };
+    registers = record { seventeen = joins.registers.seventeen; registers = λ r. (joins.registers.joined r).valid.register };
     probed = let low = v.state.probed in let same = joins.probed in omega arith;
     ranges = joins.written.valid;
     frame = λ o is. v.state.frame o ((joins.common o).0 is).0;
@@ -157,7 +154,7 @@ module _ (bounds : List ℕ) (are : IsBounds bounds) (x y j : Parts) (v : IsVali
   join_is_valid = record {
     state = join_is_state;
     fits = record {
-      registers = λ r h. (joins.registers.joined r h).valid.among;
+      registers = λ r. (joins.registers.joined r).valid.among;
       slots = λ key value found. (joins.slots.valid.values key value found).1;
     };
   }
@@ -166,7 +163,7 @@ module _ (bounds : List ℕ) (are : IsBounds bounds) (x y j : Parts) (v : IsVali
   parts_join = record {
     valid = join_is_valid;
     above_left = record {
-      registers = λ r h. (joins.registers.joined r h).above_left;
+      registers = λ r. (joins.registers.joined r).above_left;
       probed = let same = joins.probed in omega arith;
       written = joins.written.above_left;
       slots = joins.slots.above_left;
@@ -174,7 +171,7 @@ module _ (bounds : List ℕ) (are : IsBounds bounds) (x y j : Parts) (v : IsVali
       fact = joins.fact.above_left;
     };
     above_right = record {
-      registers = λ r h. (joins.registers.joined r h).above_right;
+      registers = λ r. (joins.registers.joined r).above_right;
       probed = let same = joins.probed in omega arith;
       written = joins.written.above_right;
       slots = joins.slots.above_right;
@@ -182,7 +179,7 @@ module _ (bounds : List ℕ) (are : IsBounds bounds) (x y j : Parts) (v : IsVali
       fact = joins.fact.above_right;
     };
     least = λ bound u over_left over_right. record {
-      registers = λ r h. (joins.registers.joined r h).least _ (valid_row bounds bound u r h) (over_left.registers r h) (over_right.registers r h);
+      registers = λ r. (joins.registers.joined r).least _ (valid_row bounds bound u r) (over_left.registers r) (over_right.registers r);
       probed = let same = joins.probed in let first = over_left.probed in let second = over_right.probed in omega arith;
       written = joins.written.least bound.written u.state.ranges over_left.written over_right.written;
       slots = joins.slots.least bound.slots (valid_slots bounds bound u) over_left.slots over_right.slots;

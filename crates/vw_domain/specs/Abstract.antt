@@ -29,12 +29,6 @@ is_place Flags (Slot b) = false
 is_place (Slot a) (Reg r) = false
 is_place (Slot a) Flags = false
 
--- registers count from 0 to 15
-abbrev pub IsSpot : Spot → Type 0
-IsSpot (Reg r) = r < 16
-IsSpot Flags = Unit {0}
-IsSpot (Slot o) = Unit {0}
-
 pub record Abstract : Type 0 where
   -- of each register, its distance from the value of rsp at the function's entry
   pub offsets : ℕ → Offset
@@ -49,9 +43,9 @@ pub record Abstract : Type 0 where
   -- whether the byte at an offset was written
   pub written : ℤ → Bool
 
--- slots lie at offsets of at most 2^32 in size
+-- there are seventeen registers, and slots lie at offsets of at most 2^32 in size
 abbrev pub IsFrameSpot : Spot → Type 0
-IsFrameSpot (Reg r) = r < 16
+IsFrameSpot (Reg r) = r < 17
 IsFrameSpot Flags = Unit {0}
 IsFrameSpot (Slot o) = IsWithin (2 ^ 32) o
 
@@ -76,7 +70,7 @@ value_of s (Slot o) = value_or_any (value_at s.slots (slot_key s.slots o))
 
 -- whether a place is there
 abbrev pub is_there : Parts → Spot → Bool
-is_there s (Reg r) = nat_lt r 16
+is_there s (Reg r) = nat_lt r 17
 is_there s Flags = true
 is_there s (Slot o) = is_some (value_at s.slots (slot_key s.slots o))
 
@@ -107,8 +101,8 @@ abstract_of s = record {
 
 -- the first form says at least as much
 pub record IsBelow (s t : Abstract) : Type 0 where
-  pub offsets : (r : ℕ) → r < 16 → offset_below (s.offsets r) (t.offsets r)
-  pub values : (p : Spot) → IsSpot p → value_below (s.values p) (t.values p)
+  pub offsets : (r : ℕ) → offset_below (s.offsets r) (t.offsets r)
+  pub values : (p : Spot) → value_below (s.values p) (t.values p)
   pub sizes : (o : ℤ) → (t.sizes o ≡ 0) ⊎ (s.sizes o ≡ t.sizes o)
   pub same : (p q : Spot) → t.same p q ≡ true → s.same p q ≡ true
   pub fact : fact_below s.fact t.fact

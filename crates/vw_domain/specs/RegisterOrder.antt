@@ -1,18 +1,17 @@
 -- The laws of the order of registers.
-use Rattle.std.specs.Prelude.{◌≡◌, ℕ, zero, suc, ◌+◌, ◌^◌, ◌<◌, ◌≤◌, ◌⊎◌, ℤ, ⊤, List, [], ◌∷◌, length, get_or, refl}
+use Rattle.std.specs.Prelude.{◌≡◌, ℕ, suc, ◌<◌, ◌≤◌, ◌⊎◌, ⊤, List, [], ◌∷◌, length, refl}
 use Rattle.std.proofs.Common.{ap, ◌∙◌, arith, inl, inr, sym}
 use Rattle.vw_lattice.specs.Order.{IsJoin}
-use Rattle.vw_stack.specs.Stack.{offset_below, offset_rank}
+use Rattle.vw_stack.specs.Stack.{offset_below}
 use Rattle.vw_stack.specs.StackOrder.{offset_reflexive, offset_transitive, offset_antisymmetric, offset_falls, offset_strict}
 use Rattle.vw_stack.specs.declared.offset.Offset.{Offset}
 use Rattle.vw_stack.specs.declared.offset.Offset.TheVariants.{Known, Unknown}
 use Rattle.vw_values.specs.declared.value.Value.{Value}
 use Rattle.vw_values.specs.declared.value.Value.TheVariants.{Any, Num, Const, Below, Low, Both, HeapBase, HeapAddr, Globals, Entry, Image, Index16, EntryPtr, EntryTyped, TagOf, TableFn, JumpOff, JumpDest}
-use Rattle.vw_values.specs.Values.{IsValue, IsAmong, IsValid, IsNumber, value_below}
-use Rattle.vw_values.specs.Rank.{value_rank}
+use Rattle.vw_values.specs.Values.{IsValid, IsNumber, value_below}
 use Rattle.vw_values.specs.OrderLaws as laws
 use Rattle.vw_domain.specs.declared.registers.Register.{Register}
-use Rattle.vw_domain.specs.Registers.{OffsetFits, IsRegister, IsValidRegister, register_below, register_rank, blank, register_at, row_below, row_rank, IsRow, IsValidRow, IsJoinedRow}
+use Rattle.vw_domain.specs.Registers.{OffsetFits, IsValidRegister, register_below, register_rank, register_at, row_below, row_rank, IsValidRow}
 
 pub valid_value : (bounds : List ℕ) (r : Register) → IsValidRegister bounds r → IsValid bounds r.value
 valid_value bounds r v = (v.register.value, v.among)
@@ -122,13 +121,10 @@ module _ (bounds : List ℕ) where
       let fewer = rest.0 in
       (omega arith, λ ranks. cons_same x y xs ys (register_strict x y valid_x valid_y below (omega arith)) (rest.1 (omega arith)))
 
-  all_valid : (row : List Register) → length row ≡ 16 → IsValidRow bounds row → AreValid row
-  all_valid row sixteen v r h = v r (omega arith)
+  pub row_ranked : (low high : List Register) → length low ≡ 17 → length high ≡ 17 → IsValidRow bounds low → IsValidRow bounds high → row_below low high → Ranked low high
+  row_ranked low high a b v w f = ranked low high (a ∙ sym b) (λ r h. v r) (λ r h. w r) (λ r h. f r)
 
-  pub row_ranked : (low high : List Register) → length low ≡ 16 → length high ≡ 16 → IsValidRow bounds low → IsValidRow bounds high → row_below low high → Ranked low high
-  row_ranked low high a b v w f = ranked low high (a ∙ sym b) (all_valid low a v) (all_valid high b w) (λ r h. f r (omega arith))
-
-  pub row_antisymmetric : (x y : List Register) → length x ≡ 16 → length y ≡ 16 → IsValidRow bounds x → IsValidRow bounds y → row_below x y → row_below y x → x ≡ y
+  pub row_antisymmetric : (x y : List Register) → length x ≡ 17 → length y ≡ 17 → IsValidRow bounds x → IsValidRow bounds y → row_below x y → row_below y x → x ≡ y
   row_antisymmetric x y a b v w f g =
       let over = row_ranked x y a b v w f in
       let under = row_ranked y x b a w v g in

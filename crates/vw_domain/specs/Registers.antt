@@ -1,6 +1,7 @@
--- What is known of the sixteen registers: their distances from the value of rsp at the function's entry, and their
--- values.
-use Rattle.std.specs.Prelude.{◌≡◌, ℕ, ◌+◌, ◌^◌, ◌<◌, ◌≤◌, ◌⊎◌, ℤ, pos, ◌-ℤ◌, ◌≤ℤ◌, List, [], ◌∷◌, length, get_or}
+-- What is known of seventeen registers: their distances from the value of rsp at the function's entry, and their values.
+-- Numbers 0 to 15 are the processor's (SDM volume 1, 3.4.1), and 16 is a register that holds a number within one
+-- instruction.
+use Rattle.std.specs.Prelude.{◌≡◌, ℕ, ◌+◌, ◌^◌, ◌<◌, ◌⊎◌, ℤ, pos, ◌-ℤ◌, ◌≤ℤ◌, List, [], ◌∷◌, length, get_or}
 use Rattle.vw_lattice.specs.Order.{IsJoin}
 use Rattle.vw_stack.specs.Stack.{offset_below, offset_rank}
 use Rattle.vw_stack.specs.declared.offset.Offset.{Offset}
@@ -39,38 +40,39 @@ register_rank bounds r = offset_rank r.offset + value_rank bounds r.value
 
 -- ---- the row of all registers
 
--- what stands for an element behind the last one
-abbrev pub blank : Register
-blank = record { offset = Known (pos 0); value = Any }
+-- nothing is known of a register
+abbrev pub unknown_register : Register
+unknown_register = record { offset = Unknown; value = Any }
 
+-- Nothing is known of a register behind the last one.
 abbrev pub register_at : List Register → ℕ → Register
-register_at row r = get_or row r blank
+register_at row r = get_or row r unknown_register
 
 abbrev pub row_below : List Register → List Register → Type 0
-row_below low high = (r : ℕ) → r < 16 → register_below (register_at low r) (register_at high r)
+row_below low high = (r : ℕ) → register_below (register_at low r) (register_at high r)
 
 abbrev pub row_rank : List ℕ → List Register → ℕ
 row_rank bounds [] = 0
 row_rank bounds (r ∷ rest) = register_rank bounds r + row_rank bounds rest
 
--- there are sixteen, each in its ranges
+-- there are seventeen, each in its ranges
 pub record IsRow (row : List Register) : Type 0 where
-  pub sixteen : length row ≡ 16
-  pub registers : (r : ℕ) → r < 16 → IsRegister (register_at row r)
+  pub seventeen : length row ≡ 17
+  pub registers : (r : ℕ) → IsRegister (register_at row r)
 
 abbrev pub IsValidRow : List ℕ → List Register → Type 0
-IsValidRow bounds row = (r : ℕ) → r < 16 → IsValidRegister bounds (register_at row r)
+IsValidRow bounds row = (r : ℕ) → IsValidRegister bounds (register_at row r)
 
 -- the first n registers are joined
 abbrev pub IsJoinedRow : List ℕ → ℕ → List Register → List Register → List Register → Type 0
 IsJoinedRow bounds n left right join =
     (r : ℕ) → r < n → IsJoin register_below (IsValidRegister bounds) (register_at left r) (register_at right r) (register_at join r)
 
--- each of sixteen is joined
+-- each is joined
 pub record JoinsRows (bounds : List ℕ) (left right join : List Register) : Type 0 where
-  pub sixteen : length join ≡ 16
-  pub joined : IsJoinedRow bounds 16 left right join
+  pub seventeen : length join ≡ 17
+  pub joined : (r : ℕ) → IsJoin register_below (IsValidRegister bounds) (register_at left r) (register_at right r) (register_at join r)
 
 -- the bound that each register's value names is among these
 abbrev pub IsRowAmong : List ℕ → List Register → Type 0
-IsRowAmong bounds row = (r : ℕ) → r < 16 → IsAmong bounds (register_at row r).value
+IsRowAmong bounds row = (r : ℕ) → IsAmong bounds (register_at row r).value

@@ -1,20 +1,19 @@
 -- What is known at a point of a function, part by part: the abstract states of the analysis. A lower state says more
 -- (Cousot and Cousot, Abstract interpretation, 1977).
-use Rattle.std.specs.Prelude.{◌≡◌, ◌≢◌, ℕ, ◌+◌, ◌^◌, ◌<◌, ◌≤◌, ◌⊎◌, ℤ, pos, ◌+ℤ◌, ◌-ℤ◌, ◌*ℤ◌, ◌≤ℤ◌, ◌<ℤ◌, true, ⊤, List, [], ◌∷◌, length, Some, replicate}
-use Rattle.vw_lattice.specs.Entries.{IsAscending, value_at, map_below, map_rank, HasKey, IsValidMap}
+use Rattle.std.specs.Prelude.{◌≡◌, ◌≢◌, ℕ, ◌+◌, ◌^◌, ◌<◌, ◌≤◌, ◌⊎◌, ℤ, pos, ◌+ℤ◌, ◌-ℤ◌, ◌≤ℤ◌, ◌<ℤ◌, true, List, [], ◌∷◌, length, Some, replicate}
+use Rattle.vw_lattice.specs.Entries.{IsAscending, value_at, map_below, map_rank, HasKey}
 use Rattle.vw_locals.specs.Ranges.{IsRanges, is_written, written_below, bytes}
 use Rattle.vw_names.specs.Division.{IsDivision, Same, division_below}
-use Rattle.vw_names.specs.Spot.{slot_number, NamesPlaces}
 use Rattle.vw_stack.specs.declared.offset.Offset.TheVariants as offset
 use Rattle.vw_values.specs.declared.value.Value.{Value}
 use Rattle.vw_values.specs.declared.value.Value.TheVariants.{Any, Num, Const, Below, HeapBase, Entry}
-use Rattle.vw_values.specs.Values.{IsValue, IsAmong, IsValid, value_below}
+use Rattle.vw_values.specs.Values.{IsValue, IsAmong, value_below}
 use Rattle.vw_values.specs.Rank.{value_rank}
 use Rattle.vw_domain.specs.declared.registers.Register.{Register}
 use Rattle.vw_domain.specs.declared.parts.Fact.{Fact}
 use Rattle.vw_domain.specs.declared.parts.Fact.TheVariants.{Unknown, Compare}
 use Rattle.vw_domain.specs.declared.parts.Parts.{Parts}
-use Rattle.vw_domain.specs.Registers.{IsWithin, IsRow, IsValidRow, row_below, row_rank, IsRowAmong}
+use Rattle.vw_domain.specs.Registers.{unknown_register, IsRow, row_below, row_rank, IsRowAmong}
 
 -- ---- the fact
 
@@ -69,7 +68,7 @@ key_of a = pos a -ℤ pos (2 ^ 64)
 
 -- the place is a register, the flags, or a slot that is there
 abbrev pub IsThere : List (ℤ × Value) → ℕ → Type 0
-IsThere slots a = ((a < 16) ⊎ (a ≡ 256)) ⊎ HasKey slots (key_of a)
+IsThere slots a = ((a < 17) ⊎ (a ≡ 256)) ⊎ HasKey slots (key_of a)
 
 -- each place that is in a class with another is there
 abbrev pub IsNamed : List (ℤ × Value) → List (ℕ × ℕ) → Type 0
@@ -83,25 +82,22 @@ IsInFrame written = (x : ℤ) → is_written written x ≡ true → ((pos 0 -ℤ
 
 -- ---- the state
 
--- nothing is known of a register
-abbrev pub unknown_register : Register
-unknown_register = record { offset = offset.Unknown; value = Any }
-
 -- the state in which nothing is known
 abbrev pub unknown_state : Parts
-unknown_state = record { registers = replicate 16 unknown_register; probed = 0; written = []; slots = []; classes = []; fact = Unknown }
+unknown_state = record { registers = replicate 17 unknown_register; probed = 0; written = []; slots = []; classes = []; fact = Unknown }
 
-abbrev pub known : Value → Register
-known v = record { offset = offset.Unknown; value = v }
+-- a register with this value, at no known distance
+abbrev pub plain_register : Value → Register
+plain_register v = record { offset = offset.Unknown; value = v }
 
 -- The registers at a function's entry, by their numbers: rsp is where it is, rdi holds the heap's base, and rbx, rbp and
--- r12 to r15 what the caller left in them (psABI, 3.2.1); the others hold numbers.
+-- r12 to r15 what the caller left in them (psABI, 3.2.1); the others hold numbers, and nothing is known of number 16.
 abbrev pub entry_registers : List Register
 entry_registers =
-    known Num ∷ known Num ∷ known Num ∷ known (Entry 3)
-    ∷ record { offset = offset.Known (pos 0); value = Any } ∷ known (Entry 5) ∷ known Num ∷ known HeapBase
-    ∷ known Num ∷ known Num ∷ known Num ∷ known Num
-    ∷ known (Entry 12) ∷ known (Entry 13) ∷ known (Entry 14) ∷ known (Entry 15) ∷ []
+    plain_register Num ∷ plain_register Num ∷ plain_register Num ∷ plain_register (Entry 3)
+    ∷ record { offset = offset.Known (pos 0); value = Any } ∷ plain_register (Entry 5) ∷ plain_register Num ∷ plain_register HeapBase
+    ∷ plain_register Num ∷ plain_register Num ∷ plain_register Num ∷ plain_register Num
+    ∷ plain_register (Entry 12) ∷ plain_register (Entry 13) ∷ plain_register (Entry 14) ∷ plain_register (Entry 15) ∷ unknown_register ∷ []
 
 -- the state at a function's entry
 abbrev pub entry_state : Parts

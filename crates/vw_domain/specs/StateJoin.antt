@@ -1,12 +1,11 @@
 -- The join of two states, part by part.
-use Rattle.std.specs.Prelude.{◌≡◌, ℕ, ◌↔◌, ℤ, List, ⊤, min}
+use Rattle.std.specs.Prelude.{◌≡◌, ℕ, ◌↔◌, ℤ, List, min}
 use Rattle.vw_lattice.specs.Order.{IsJoin}
 use Rattle.vw_lattice.specs.Entries.{map_below, IsValidMap, HasKey}
 use Rattle.vw_locals.specs.Ranges.{IsRanges, IsCommon, written_below}
 use Rattle.vw_names.specs.Division.{IsDivision, division_below, IsRefinement}
 use Rattle.vw_values.specs.Values.{IsValid, value_below}
 use Rattle.vw_domain.specs.declared.parts.Fact.{Fact}
-use Rattle.vw_domain.specs.declared.parts.Fact.TheVariants.{Unknown, Compare}
 use Rattle.vw_domain.specs.declared.parts.Parts.{Parts}
 use Rattle.vw_domain.specs.Registers.{JoinsRows}
 use Rattle.vw_domain.specs.State.{fact_below}

@@ -1,24 +1,22 @@
 -- The laws of the order of states, from those of their parts.
-use Rattle.std.specs.Prelude.{◌≡◌, ◌≢◌, ℕ, ◌+◌, ◌^◌, ◌<◌, ◌≤◌, ◌⊎◌, ◌↔◌, ℤ, min, List, length, refl}
-use Rattle.std.proofs.Common.{ap, ◌∙◌, arith, inl, inr, sym}
-use Rattle.vw_lattice.specs.Order.{IsJoin}
-use Rattle.vw_lattice.specs.Entries.{IsAscending, value_at, map_below, map_rank, HasKey, IsValidMap}
+use Rattle.std.specs.Prelude.{◌≡◌, ℕ, ◌≤◌, ℤ, List, length, refl}
+use Rattle.std.proofs.Common.{ap, ◌∙◌, arith}
+use Rattle.vw_lattice.specs.Entries.{map_rank, IsValidMap}
 use Rattle.vw_lattice.specs.EntryOrder.{ValueLaws, value_laws, map_reflexive, map_transitive, map_antisymmetric, map_ranks}
-use Rattle.vw_locals.specs.Ranges.{IsRanges, is_written, written_below, bytes}
+use Rattle.vw_locals.specs.Ranges.{bytes}
 use Rattle.vw_locals.specs.RangeOrder.{written_transitive, written_antisymmetric, ranked}
-use Rattle.vw_names.specs.Division.{IsDivision, Same, division_below}
 use Rattle.vw_names.specs.DivisionOrder.{division_transitive, division_antisymmetric, division_rank, division_strict}
 use Rattle.vw_values.specs.declared.value.Value.{Value}
-use Rattle.vw_values.specs.Values.{IsValue, IsAmong, IsValid, value_below}
+use Rattle.vw_values.specs.Values.{IsValid, value_below}
 use Rattle.vw_values.specs.Rank.{value_rank}
 use Rattle.vw_values.specs.OrderLaws as laws
 use Rattle.vw_domain.specs.declared.registers.Register.{Register}
 use Rattle.vw_domain.specs.declared.parts.Fact.{Fact}
 use Rattle.vw_domain.specs.declared.parts.Fact.TheVariants.{Unknown, Compare}
 use Rattle.vw_domain.specs.declared.parts.Parts.{Parts}
-use Rattle.vw_domain.specs.Registers.{IsValidRow, row_below, row_rank}
+use Rattle.vw_domain.specs.Registers.{IsValidRow, row_rank}
 use Rattle.vw_domain.specs.RegisterOrder.{register_reflexive, register_transitive, row_ranked, row_antisymmetric}
-use Rattle.vw_domain.specs.State.{fact_below, fact_rank, IsState, Fits, IsValidState, state_below, state_rank}
+use Rattle.vw_domain.specs.State.{fact_below, fact_rank, IsValidState, state_below, state_rank}
 
 -- ---- facts
 
@@ -62,7 +60,7 @@ valid_slots bounds s v = record {
 }
 
 pub valid_row : (bounds : List ℕ) (s : Parts) → IsValidState bounds s → IsValidRow bounds s.registers
-valid_row bounds s v r h = record { register = v.state.registers.registers r h; among = v.fits.registers r h }
+valid_row bounds s v r = record { register = v.state.registers.registers r; among = v.fits.registers r }
 
 pub state_same : (x y : Parts) → x.registers ≡ y.registers → x.probed ≡ y.probed → x.written ≡ y.written → x.slots ≡ y.slots → x.classes ≡ y.classes → x.fact ≡ y.fact → x ≡ y
 state_same x y a b c d e f =
@@ -80,7 +78,7 @@ module _ (bounds : List ℕ) where
 
   pub state_reflexive : (x : Parts) → IsValidState bounds x → state_below x x
   state_reflexive x v = record {
-    registers = λ r h. register_reflexive bounds _ (valid_row bounds x v r h);
+    registers = λ r. register_reflexive bounds _ (valid_row bounds x v r);
     probed = omega arith;
     written = λ o is. is;
     slots = map_reflexive (IsValid bounds) value_below (value_rank bounds) slot_laws x.slots (valid_slots bounds x v);
@@ -90,7 +88,7 @@ module _ (bounds : List ℕ) where
 
   pub state_transitive : (x y z : Parts) → IsValidState bounds x → IsValidState bounds y → IsValidState bounds z → state_below x y → state_below y z → state_below x z
   state_transitive x y z u v w f g = record {
-    registers = λ r h. register_transitive bounds _ _ _ (valid_row bounds x u r h) (valid_row bounds y v r h) (valid_row bounds z w r h) (f.registers r h) (g.registers r h);
+    registers = λ r. register_transitive bounds _ _ _ (valid_row bounds x u r) (valid_row bounds y v r) (valid_row bounds z w r) (f.registers r) (g.registers r);
     probed = let low = f.probed in let high = g.probed in omega arith;
     written = written_transitive x.written y.written z.written f.written g.written;
     slots = map_transitive (IsValid bounds) value_below (value_rank bounds) slot_laws x.slots y.slots z.slots (valid_slots bounds x u) (valid_slots bounds y v) (valid_slots bounds z w) f.slots g.slots;
@@ -103,7 +101,7 @@ module _ (bounds : List ℕ) where
       let down = f.probed in
       let up = g.probed in
       state_same x y
-      (row_antisymmetric bounds x.registers y.registers v.state.registers.sixteen w.state.registers.sixteen (valid_row bounds x v) (valid_row bounds y w) f.registers g.registers)
+      (row_antisymmetric bounds x.registers y.registers v.state.registers.seventeen w.state.registers.seventeen (valid_row bounds x v) (valid_row bounds y w) f.registers g.registers)
       (omega arith)
       (written_antisymmetric x.written y.written v.state.ranges w.state.ranges f.written g.written)
       (map_antisymmetric (IsValid bounds) value_below (value_rank bounds) slot_laws x.slots y.slots (valid_slots bounds x v) (valid_slots bounds y w) f.slots g.slots)
@@ -128,7 +126,7 @@ module _ (bounds : List ℕ) where
 
   ranks : (x y : Parts) → IsValidState bounds x → IsValidState bounds y → state_below x y → Ranks x y
   ranks x y v w f =
-      let row = row_ranked bounds x.registers y.registers v.state.registers.sixteen w.state.registers.sixteen (valid_row bounds x v) (valid_row bounds y w) f.registers in
+      let row = row_ranked bounds x.registers y.registers v.state.registers.seventeen w.state.registers.seventeen (valid_row bounds x v) (valid_row bounds y w) f.registers in
       let written = ranked y.written x.written v.state.ranges w.state.ranges f.written in
       let slots = map_ranks (IsValid bounds) value_below (value_rank bounds) slot_laws x.slots y.slots (valid_slots bounds x v) (valid_slots bounds y w) f.slots in
       record {

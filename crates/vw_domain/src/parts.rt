@@ -25,8 +25,8 @@ pub enum Fact {
 /// The parts of a state, by which contracts see it.
 #[derive(Debug, Drop)]
 pub struct Parts {
-    /// The registers, by their numbers.
-    pub registers: [Register; 16],
+    /// The registers, by their numbers. Number 16 holds a number within one instruction.
+    pub registers: [Register; 17],
     /// How deep the stack was probed, in bytes.
     pub probed: u64,
     /// The bytes of the frame that were written.
@@ -105,7 +105,7 @@ pub fn copy(parts: &Parts) -> Result<Parts, OutOfMemory>
 }
 
 // The parts of the state in which nothing is known. Takes no memory.
-pub fn unknown(alloc: Global) -> Parts
+pub fn unknown_parts(alloc: Global) -> Parts
     ensures { result ≡ unknown_state }
 {
     let register = Register {
@@ -113,7 +113,7 @@ pub fn unknown(alloc: Global) -> Parts
         value: Value::Any,
     };
     Parts {
-        registers: [register; 16],
+        registers: [register; 17],
         probed: 0,
         written: Written::new(alloc),
         slots: MapOf::new(alloc),

@@ -2,7 +2,7 @@ ghost use Rattle.std.specs.Prelude.{◌≡◌, ◌↔◌, ◌<◌, ◌≤◌, �
 ghost use Rattle.vw_locals.specs.Ranges.{is_between};
 ghost use Rattle.vw_names.specs.Spot.{number};
 ghost use Rattle.vw_domain.specs.Registers.{IsWithin};
-ghost use Rattle.vw_domain.specs.Abstract.{abstract_of, IsFrameSpot, slot_key, is_there, class_number, is_place};
+ghost use Rattle.vw_domain.specs.Abstract.{abstract_of, IsFrameSpot, slot_key, value_of, is_there, class_number, is_place};
 
 use crate::parts::{Fact, Parts};
 use crate::registers::Register;
@@ -13,7 +13,7 @@ use vw_names::Spot;
 use vw_values::Value;
 
 // The key of the slot at an offset.
-fn key_at(slots: &MapOf<Value>, offset: i64) -> i64
+pub fn key_at(slots: &MapOf<Value>, offset: i64) -> i64
     requires { IsWithin (2 ^ 32) offset }
     ensures { result ≡ slot_key slots.now offset }
 {
@@ -30,7 +30,7 @@ fn is_there(parts: &Parts, place: Spot) -> bool
     ensures { IsTrue result ↔ (is_there parts.now place ≡ true) }
 {
     match place {
-        Spot::Reg(r) => r < 16,
+        Spot::Reg(r) => r < 17,
         Spot::Flags => true,
         Spot::Slot(offset) => match parts.slots.get(key_at(&parts.slots, offset)) {
             Some(_) => true,
@@ -40,7 +40,7 @@ fn is_there(parts: &Parts, place: Spot) -> bool
 }
 
 // A place as the classes name it.
-fn keyed(parts: &Parts, place: Spot) -> Spot
+pub fn named_place(parts: &Parts, place: Spot) -> Spot
     requires { IsFrameSpot place }
     ensures { number result ≡ class_number parts.now place }
 {
@@ -51,7 +51,22 @@ fn keyed(parts: &Parts, place: Spot) -> Spot
     }
 }
 
-fn is_one(a: Spot, b: Spot) -> bool
+// The value of a place; any where nothing is known of it.
+pub fn value_of(parts: &Parts, place: Spot) -> Value
+    requires { IsFrameSpot place }
+    ensures { result ≡ value_of parts.now place }
+{
+    match place {
+        Spot::Reg(r) => parts.registers[r as usize].value,
+        Spot::Flags => Value::Any,
+        Spot::Slot(offset) => match parts.slots.get(key_at(&parts.slots, offset)) {
+            Some(value) => *value,
+            None => Value::Any,
+        },
+    }
+}
+
+pub fn is_one(a: Spot, b: Spot) -> bool
     ensures { IsTrue result ↔ (is_place a b ≡ true) }
 {
     match (a, b) {
@@ -70,7 +85,7 @@ fn is_one(a: Spot, b: Spot) -> bool
 impl State {
     /// What is known of the register with this number.
     pub fn register(&self, r: u8) -> Register
-        requires { r < 16 }
+        requires { r < 17 }
         ensures offset { result.offset ≡ (abstract_of self.now).offsets r }
         ensures value { result.value ≡ (abstract_of self.now).values (Spot.Reg r) }
     {
@@ -83,14 +98,7 @@ impl State {
         requires { IsFrameSpot place }
         ensures { result ≡ (abstract_of self.now).values place }
     {
-        match place {
-            Spot::Reg(r) => self.parts.registers[r as usize].value,
-            Spot::Flags => Value::Any,
-            Spot::Slot(offset) => match self.parts.slots.get(key_at(&self.parts.slots, offset)) {
-                Some(value) => *value,
-                None => Value::Any,
-            },
-        }
+        value_of(&self.parts, place)
     }
 
     /// The size of the slot at an offset, 4 or 8 bytes, and 0 where there is none.
@@ -118,7 +126,9 @@ impl State {
         is_one(a, b)
             || is_there(parts, a)
                 && is_there(parts, b)
-                && parts.classes.same(keyed(parts, a), keyed(parts, b))
+                && parts
+                    .classes
+                    .same(named_place(parts, a), named_place(parts, b))
     }
 
     /// How deep the stack was probed, in bytes.

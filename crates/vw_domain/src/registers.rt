@@ -38,10 +38,10 @@ fn join_of(register: Register, other: &Register, bounds: &Bounds) -> Result<Regi
 }
 
 // Whether each register of a row is below that of the other.
-pub fn is_row_below(low: &[Register; 16], high: &[Register; 16]) -> bool
+pub fn is_row_below(low: &[Register; 17], high: &[Register; 17]) -> bool
     ensures { IsTrue result ↔ row_below low.now high.now }
 {
-    for i in 0..16 {
+    for i in 0..17 {
         if !is_register_below(&low[i], &high[i]) {
             return false;
         }
@@ -49,19 +49,19 @@ pub fn is_row_below(low: &[Register; 16], high: &[Register; 16]) -> bool
     true
 }
 
-// Joins each of sixteen registers with that of the other row.
+// Joins each of seventeen registers with that of the other row.
 pub fn join_rows(
     row: &mut [Register],
     other: &[Register],
     bounds: &Bounds,
 ) -> Result<(), OutOfMemory>
-    requires row { length row.old ≡ 16 }
-    requires other { length other.now ≡ 16 }
+    requires row { length row.old ≡ 17 }
+    requires other { length other.now ≡ 17 }
     requires valid { IsValidRow bounds.now row.old }
     requires valid_other { IsValidRow bounds.now other.now }
     ensures { IfOk result (λ _. JoinsRows bounds.now row.old other.now row.new) }
 {
-    for i in 0..16 {
+    for i in 0..17 {
         let joined = join_of(row[i], &other[i], bounds)?;
         row[i] = joined;
     }
@@ -69,10 +69,10 @@ pub fn join_rows(
 }
 
 // Whether the bound that each register's value names is among these.
-pub fn is_row_among(row: &[Register; 16], bounds: &Bounds) -> bool
+pub fn is_row_among(row: &[Register; 17], bounds: &Bounds) -> bool
     ensures { IsTrue result ↔ IsRowAmong bounds.now row.now }
 {
-    for i in 0..16 {
+    for i in 0..17 {
         if !is_among(row[i].value, bounds) {
             return false;
         }

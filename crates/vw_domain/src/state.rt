@@ -1,8 +1,8 @@
 ghost use Rattle.std.specs.Prelude.{◌≡◌, ◌↔◌, IsTrue};
-ghost use Rattle.vw_domain.specs.State.{Fits, IsState, IsValidState, state_below, state_rank, known, entry_state};
+ghost use Rattle.vw_domain.specs.State.{Fits, IsState, IsValidState, state_below, state_rank, plain_register, entry_state};
 ghost use Rattle.vw_domain.specs.StateOrder.{state_reflexive, state_transitive, state_antisymmetric, state_falls, state_strict};
 
-use crate::parts::{Parts, copy, is_below, join, unknown};
+use crate::parts::{Parts, copy, is_below, join, unknown_parts};
 use crate::registers::{Register, is_row_among};
 use crate::slots::are_slots_among;
 use std::alloc::Global;
@@ -34,6 +34,13 @@ impl Model for State {
 }
 
 impl State {
+    /// What holds of every state: its parts are in their ranges, and its classes name places that are there.
+    pub fn is_state(&self)
+        ensures { IsState self.now }
+    {
+        let _ = &self.parts;
+    }
+
     /// Whether each bound that a value of the state names is among these.
     pub fn fits(&self, bounds: &Bounds) -> bool
         ensures { IsTrue result ↔ Fits bounds.now self.now }
@@ -69,7 +76,7 @@ impl Lattice for State {
         match join(&mut self.parts, &other.parts, bounds) {
             Ok(()) => Ok(true),
             Err(error) => {
-                self.parts = unknown(self.alloc);
+                self.parts = unknown_parts(self.alloc);
                 Err(error)
             }
         }
@@ -94,8 +101,9 @@ impl Lattice for State {
     ghost rank_strict = { state_strict };
 }
 
-fn known(value: Value) -> Register
-    ensures { result ≡ known value }
+// A register with this value, at no known distance.
+fn plain_register(value: Value) -> Register
+    ensures { result ≡ plain_register value }
 {
     Register {
         offset: Offset::Unknown,
@@ -104,32 +112,34 @@ fn known(value: Value) -> Register
 }
 
 /// The state at a function's entry: rsp is at offset 0, rdi holds the heap's base, rbx, rbp and r12 to r15 hold what
-/// the caller left in them, the other registers hold numbers, and nothing else is known. Takes no memory.
+/// the caller left in them, the other registers of the
+/// processor hold numbers, and nothing else is known. Takes no memory.
 pub fn entry_state(alloc: Global) -> State
     ensures { result ≡ entry_state }
 {
-    let mut parts = unknown(alloc);
-    let number = known(Value::Num);
+    let mut parts = unknown_parts(alloc);
+    let number = plain_register(Value::Num);
     parts.registers = [
         number,
         number,
         number,
-        known(Value::Entry(3)),
+        plain_register(Value::Entry(3)),
         Register {
             offset: Offset::Known(0),
             value: Value::Any,
         },
-        known(Value::Entry(5)),
+        plain_register(Value::Entry(5)),
         number,
-        known(Value::HeapBase),
-        number,
-        number,
+        plain_register(Value::HeapBase),
         number,
         number,
-        known(Value::Entry(12)),
-        known(Value::Entry(13)),
-        known(Value::Entry(14)),
-        known(Value::Entry(15)),
+        number,
+        number,
+        plain_register(Value::Entry(12)),
+        plain_register(Value::Entry(13)),
+        plain_register(Value::Entry(14)),
+        plain_register(Value::Entry(15)),
+        plain_register(Value::Any),
     ];
     State { alloc, parts }
 }

@@ -1,5 +1,5 @@
 -- Maps from integers, as lists of a key and a value with the keys ascending.
-use Rattle.std.specs.Prelude.{◌≡◌, ◌<ℤ◌, ◌≤ℤ◌, ◌⊎◌, ℤ, ℕ, ◌+◌, ◌<◌, ◌≤◌, length, slice_index_or, List, [], ◌∷◌, Option, None, Some, if◌then◌else◌}
+use Rattle.std.specs.Prelude.{◌≡◌, ◌<ℤ◌, ◌≤ℤ◌, ◌⊎◌, ℤ, ℕ, zero, suc, ◌+◌, ◌<◌, ◌≤◌, length, slice_index_or, List, [], ◌∷◌, Option, None, Some, if◌then◌else◌}
 use Rattle.std.specs.List.{AllPairs, AllWithin}
 use Rattle.std.specs.Ordering.{int_eq}
 
@@ -50,3 +50,9 @@ pub record CutsKeys {V : Type 0} (low high : ℤ) (old new : List (ℤ × V)) : 
   pub ascending : IsAscending new
   pub inside : (key : ℤ) → low ≤ℤ key → key <ℤ high → value_at new key ≡ None
   pub outside : (key : ℤ) → (key <ℤ low) ⊎ (high ≤ℤ key) → value_at new key ≡ value_at old key
+
+-- the entry at `at` has another value
+abbrev pub with_value : {V : Type 0} → List (ℤ × V) → ℕ → V → List (ℤ × V)
+with_value [] at value = []
+with_value (entry ∷ rest) zero value = (entry.0, value) ∷ rest
+with_value (entry ∷ rest) (suc at) value = entry ∷ with_value rest at value

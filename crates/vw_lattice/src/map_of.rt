@@ -1,6 +1,6 @@
-ghost use Rattle.std.specs.Prelude.{◌≡◌, ◌≢◌, ◌≤◌, ◌≤ℤ◌, ◌<ℤ◌, ◌⊎◌, ℤ, [], length, IsTrue, ◌↔◌, Some, None, MatchOption, IfOk, OnOk, OnErr, slice_get};
+ghost use Rattle.std.specs.Prelude.{◌≡◌, ◌≢◌, ◌<◌, ◌≤◌, ◌≤ℤ◌, ◌<ℤ◌, ◌⊎◌, ℤ, [], length, IsTrue, ◌↔◌, Some, None, MatchOption, IfOk, OnOk, OnErr, slice_get};
 ghost use Rattle.std.specs.Option.{option_copied};
-ghost use Rattle.vw_lattice.specs.Entries.{IsAscending, value_at, IsBelowAt, map_below, IsValidMap, map_rank, HasKey};
+ghost use Rattle.vw_lattice.specs.Entries.{IsAscending, value_at, IsBelowAt, map_below, IsValidMap, map_rank, HasKey, with_value};
 ghost use Rattle.vw_lattice.specs.Order.{IsJoin, TellsChange};
 ghost use Rattle.vw_lattice.specs.EntryOrder.{value_laws, map_reflexive, map_transitive, map_antisymmetric, map_ranks};
 
@@ -70,7 +70,31 @@ impl<V> MapOf<V> {
     }
 }
 
+impl<V> MapOf<V> {
+    /// The number of keys.
+    pub fn len(&self) -> usize
+        ensures { result ≡ length self.now }
+    {
+        self.entries.len()
+    }
+
+    /// Whether there are no keys.
+    pub fn is_empty(&self) -> bool
+        ensures { IsTrue result ↔ (length self.now ≡ 0) }
+    {
+        self.entries.is_empty()
+    }
+}
+
 impl<V: Drop> MapOf<V> {
+    /// Sets the value at key number `i` in ascending order, counted from 0. Takes no memory.
+    pub fn set_nth(&mut self, i: usize, value: V)
+        requires { i < length self.old }
+        ensures { self.new ≡ with_value self.old i value }
+    {
+        self.entries[i].1 = value;
+    }
+
     /// Sets the value at a key. Where memory is refused, the map stays as it was.
     pub fn put(&mut self, key: i64, value: V) -> Result<(), OutOfMemory>
         ensures here { OnOk result (value_at self.new key ≡ Some value) }

@@ -10,10 +10,10 @@ use vw_lattice::Lattice;
 /// offset is valid.
 #[derive(Clone, Copy, Debug, PartialEq, Eq)]
 pub enum Offset {
-    /// The value is that of rsp at the entry plus so many bytes; below it where negative.
-    Known(i64),
     /// Nothing is known of the distance.
     Unknown,
+    /// The value is that of rsp at the entry plus so many bytes; below it where negative.
+    Known(i64),
 }
 
 impl Lattice for Offset {

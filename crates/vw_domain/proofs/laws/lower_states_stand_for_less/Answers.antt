@@ -5,4 +5,4 @@ pub returns-clause-form : goal.returns-clause-form
 returns-clause-form c = λ s t is_s is_t below. lower_form s t is_s is_t below
 
 pub returns-clause-meaning : goal.returns-clause-meaning
-returns-clause-meaning c = λ s t m is_s is_t below stands. lower_stands s t is_s is_t below c.values_stand.ensures.greater m stands
+returns-clause-meaning c = λ s t m is_s is_t below stands. (stands.0, lower_stands s t is_s is_t below c.values_stand.ensures.greater m stands.0 stands.1)

@@ -1,4 +1,4 @@
-use Rattle.std.proofs.Common.{ℕ, ◌≡◌, ◌<◌, ◌≤◌, ◌^◌, length, arith, refl, false, true, IsTrue}
+use Rattle.std.proofs.Common.{◌≤◌, length, arith, refl}
 use Rattle.std.specs.Prelude.{pos}
 use Rattle.vw_values.specs.declared.value.Value.TheVariants.{Any}
 use Rattle.vw_domain.proofs.SlotLemmas.{few_slots, all_among, among_step, not_among, entry_at}

@@ -1,0 +1,39 @@
+-- The laws of values that the laws of the equations rest on.
+use Rattle.vw_values.specs.Laws as law
+
+pub record ValueLaws : Type 0 where
+  pub greater : law.GreaterStandsForMore
+  pub addresses : law.TagsTypeAddresses
+  pub indices : law.TagsMarkIndices
+  pub joins_least : law.JoinsAreLeast
+  pub joins_rise : law.JoinsRise
+  pub numbers_join : law.NumbersJoin
+  pub sums_valid : law.SumsAreValid
+  pub sums_rise : law.SumsRise
+  pub sums_stand : law.SumsStand
+  pub differences_valid : law.DifferencesAreValid
+  pub differences_rise : law.DifferencesRise
+  pub differences_stand : law.DifferencesStand
+  pub lows_valid : law.LowsAreValid
+  pub lows_rise : law.LowsRise
+  pub lows_stand : law.LowsStand
+  pub narrows_valid : law.NarrowsAreValid
+  pub narrows_rise : law.NarrowsRise
+  pub narrows_stand : law.NarrowsStand
+  pub ands_valid : law.AndsAreValid
+  pub ands_rise : law.AndsRise
+  pub ands_stand : law.AndsStand
+  pub scales_valid : law.ScalesAreValid
+  pub scales_rise : law.ScalesRise
+  pub scales_stand : law.ScalesStand
+  pub shifts_valid : law.ShiftsAreValid
+  pub shifts_rise : law.ShiftsRise
+  pub shifts_stand : law.ShiftsStand
+  pub below_valid : law.BelowIsValid
+  pub below_rises : law.BelowRises
+  pub below_holds : law.BelowStands
+  pub equal_valid : law.EqualIsValid
+  pub equal_rises : law.EqualRises
+  pub equal_holds : law.EqualStands
+  pub whole_cut : law.WholeCutIsGreatest
+  pub half_cut : law.HalfCutIsGreatest

@@ -1,0 +1,115 @@
+ghost use Rattle.std.specs.Prelude.{◌≡◌, ◌<◌, ◌^◌, ◌&&◌, ◌==◌, ℕ, List, length, OnOk, OnErr};
+ghost use Rattle.vw_lattice.specs.Entries.{IsAscending};
+ghost use Rattle.vw_domain.specs.State.{Fits};
+ghost use Rattle.vw_domain.specs.Abstract.{abstract_of};
+ghost use Rattle.vw_domain.specs.Calls.{after_call};
+ghost use Rattle.vw_domain.specs.Stores.{called_register, CallsRow, is_left, key_limit, IsCallOffset, LeavesAll, Pushes, Calls};
+ghost use Rattle.vw_domain.specs.Writes.{is_gone};
+
+use crate::forgets::{forget_in_slots, remaining_register};
+use crate::gone::{Gone, is_gone};
+use crate::parts::{Fact, Parts};
+use crate::registers::Register;
+use crate::state::State;
+use crate::stores::{add_below, lose_between};
+use vw_bits::OutOfMemory;
+use vw_names::{Classes, Spot};
+use vw_stack::Offset;
+use vw_values::Value;
+
+// What is known of a register once a call returned: some number where the call need not keep it.
+fn called_register(register: Register, number: u8, gone: Gone) -> Register
+    ensures { result ≡ called_register gone number register }
+{
+    if !is_gone(gone, number) {
+        return remaining_register(register, gone);
+    }
+    let value = if number < 16 { Value::Num } else { Value::Any };
+    Register {
+        offset: Offset::Unknown,
+        value,
+    }
+}
+
+fn call_in_row(row: &mut [Register], gone: Gone)
+    requires { length row.old ≡ 17 }
+    ensures { CallsRow gone row.old row.new }
+{
+    for i in 0..17u8 {
+        row[i as usize] = called_register(row[i as usize], i, gone);
+    }
+}
+
+// Takes a register out of its class where it is written.
+fn leave_register(classes: &mut Classes, register: u8, gone: Gone)
+    ensures { LeavesAll (λ a. (a == register) && is_gone gone register) classes.old classes.new }
+{
+    if is_gone(gone, register) {
+        classes.leave(Spot::Reg(register));
+    }
+}
+
+fn leave_registers(classes: &mut Classes, gone: Gone)
+    ensures { LeavesAll (is_left gone) classes.old classes.new }
+{
+    for i in 0..17u8 {
+        leave_register(classes, i, gone);
+    }
+}
+
+// The first key of a slot that a call leaves.
+fn key_limit(offset: Offset) -> i64
+    requires { IsCallOffset offset }
+    ensures { result ≡ key_limit offset }
+{
+    match offset {
+        Offset::Unknown => (1 << 33) + 2,
+        Offset::Known(c) => c + c,
+    }
+}
+
+// Writes the return address. Where memory is refused, the parts stay as they were.
+fn push(parts: &mut Parts, offset: Offset) -> Result<(), OutOfMemory>
+    requires { IsCallOffset offset }
+    ensures ok { OnOk result (Pushes offset parts.old parts.new) }
+    ensures err { OnErr result (parts.new ≡ parts.old) }
+{
+    match offset {
+        Offset::Unknown => Ok(()),
+        Offset::Known(c) => add_below(parts, c - 8, c),
+    }
+}
+
+// What a call leaves, with rsp at this offset before it, that writes these registers. Where memory is refused, the parts
+// stay as they were.
+fn call(parts: &mut Parts, offset: Offset, gone: Gone) -> Result<(), OutOfMemory>
+    requires offset { IsCallOffset offset }
+    requires row { length parts.old.registers ≡ 17 }
+    requires slots { IsAscending parts.old.slots }
+    ensures ok { OnOk result (Calls offset gone parts.old parts.new) }
+    ensures err { OnErr result (parts.new ≡ parts.old) }
+{
+    push(parts, offset)?;
+    lose_between(parts, -(1 << 33), key_limit(offset));
+    leave_registers(&mut parts.classes, gone);
+    parts.classes.leave(Spot::Flags);
+    call_in_row(&mut parts.registers, gone);
+    forget_in_slots(&mut parts.slots, gone);
+    parts.fact = Fact::Unknown;
+    Ok(())
+}
+
+impl State {
+    /// What a call of a function leaves once it returned: the registers that it need not keep hold any numbers (psABI,
+    /// 3.2.1), the return address is written, slots below rsp are lost, or all where its offset is not known, and the
+    /// flags tell nothing. Where memory is refused, the state stays as it was.
+    pub fn call(&mut self) -> Result<(), OutOfMemory>
+        ensures ok { OnOk result (abstract_of self.new ≡ after_call (abstract_of self.old)) }
+        ensures fits { OnOk result ((b : List ℕ) → Fits b self.old → Fits b self.new) }
+        ensures err { OnErr result (self.new ≡ self.old) }
+    {
+        let offset = self.parts.registers[4].offset;
+        call(&mut self.parts, offset, Gone::Unsaved)?;
+        Ok(())
+    }
+}

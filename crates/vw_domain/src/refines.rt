@@ -1,0 +1,117 @@
+ghost use Rattle.std.specs.Prelude.{◌≡◌, ◌<◌, ◌&&◌, length};
+ghost use Rattle.vw_names.specs.Spot.{number};
+ghost use Rattle.vw_domain.specs.Refines.{refinement, IsComparison, is_compared, passes, RefinesRow, RefinesSlots};
+ghost use Rattle.vw_domain.specs.State.{AreSlots};
+ghost use Rattle.vw_domain.specs.Changes.{refined_by};
+
+use crate::registers::Register;
+use vw_insn::Width;
+use vw_lattice::MapOf;
+use vw_names::{Classes, Spot};
+use vw_values::{Bounds, Value, below, equal};
+
+/// What a comparison with `k` told of a number's low bits of this width, 32 or 64.
+#[derive(Clone, Copy, Debug, PartialEq, Eq)]
+pub enum Comparison {
+    /// They are below `k`.
+    Below { width: Width, k: u64 },
+    /// They are `k`.
+    Equal { width: Width, k: u64 },
+}
+
+// What is left of a value; none where no number passes.
+fn refinement(value: Value, comparison: Comparison, bounds: &Bounds) -> Option<Value>
+    requires { IsComparison comparison }
+    ensures { result ≡ refinement comparison bounds.now value }
+{
+    match comparison {
+        Comparison::Below { width, k } => below(value, width, k, bounds),
+        Comparison::Equal { width, k } => equal(value, width, k, bounds),
+    }
+}
+
+// Whether a place is in the class of the flags.
+fn is_compared(classes: &Classes, place: Spot) -> bool
+    ensures { result ≡ is_compared classes.now (number place) }
+{
+    classes.same(Spot::Flags, place)
+}
+
+// The value in a place after a comparison, and whether any number passes.
+fn refined_value(
+    value: Value,
+    is_compared: bool,
+    comparison: Comparison,
+    bounds: &Bounds,
+) -> (Value, bool)
+    requires { IsComparison comparison }
+    ensures value { result.0 ≡ refined_by is_compared (refinement comparison bounds.now) value }
+    ensures passes { result.1 ≡ passes is_compared (refinement comparison bounds.now value) }
+{
+    if !is_compared {
+        return (value, true);
+    }
+    match refinement(value, comparison, bounds) {
+        None => (value, false),
+        Some(refined) => (refined, true),
+    }
+}
+
+// Whether both hold.
+pub fn both(a: bool, b: bool) -> bool
+    ensures { result ≡ (a && b) }
+{
+    a && b
+}
+
+// Refines the values of the registers in the class of the flags, and answers whether in each some number passes.
+pub fn refine_row(
+    row: &mut [Register],
+    classes: &Classes,
+    comparison: Comparison,
+    bounds: &Bounds,
+) -> bool
+    requires row { length row.old ≡ 17 }
+    requires comparison { IsComparison comparison }
+    ensures { RefinesRow classes.now (refinement comparison bounds.now) row.old row.new result }
+{
+    let mut all = true;
+    for i in 0..17u8 {
+        let register = row[i as usize];
+        let is_in = is_compared(classes, Spot::Reg(i));
+        let refined = refined_value(register.value, is_in, comparison, bounds);
+        row[i as usize] = Register {
+            offset: register.offset,
+            value: refined.0,
+        };
+        all = both(all, refined.1);
+    }
+    all
+}
+
+// The same for the slots.
+pub fn refine_slots(
+    slots: &mut MapOf<Value>,
+    classes: &Classes,
+    comparison: Comparison,
+    bounds: &Bounds,
+) -> bool
+    requires slots { AreSlots slots.old }
+    requires comparison { IsComparison comparison }
+    ensures { RefinesSlots classes.now (refinement comparison bounds.now)
+        slots.old slots.new result }
+{
+    let mut all = true;
+    for i in 0..slots.len() {
+        match slots.nth(i) {
+            None => return all,
+            Some((key, value)) => {
+                let is_in = is_compared(classes, Spot::Slot(key));
+                let refined = refined_value(*value, is_in, comparison, bounds);
+                slots.set_nth(i, refined.0);
+                all = both(all, refined.1);
+            }
+        }
+    }
+    all
+}
