@@ -60,11 +60,11 @@ headers_hold file is =
     let first = both_none (header_fault file) (option_or (dynamic_fault file) (layout_fault file)) is in
     (first.0, (both_none (dynamic_fault file) (layout_fault file) first.1).0)
 
-is_image : (file : List ℕ) → IsModule file → IsImage (image_of file)
+pub is_image : (file : List ℕ) → IsModule file → IsImage (image_of file)
 unfolding image_of
 is_image file is = record { headers = (headers_hold file is).0; dynamic = (headers_hold file is).1; whole = refl }
 
-Contains-map : {X Y : Type 0} (f : X → Y) (xs : List X) (x : X) → Contains xs x → Contains (map f xs) (f x)
+pub Contains-map : {X Y : Type 0} (f : X → Y) (xs : List X) (x : X) → Contains xs x → Contains (map f xs) (f x)
 Contains-map f [] x (k, inside, is) = absurd (omega arith)
 Contains-map f (y ∷ xs) x (zero, inside, is) = (0, omega arith, ap f is)
 Contains-map f (y ∷ xs) x (suc k, inside, is) =

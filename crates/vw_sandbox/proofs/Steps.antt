@@ -79,15 +79,15 @@ module _ (entered : Registers) (Rest : State → Type 0) where
   arrives : (w : World) (s : State) → s.rip ≢ w.host_return → Rest s → Onward entered Rest (arrive w s)
   arrives w s elsewhere rest = arrives_by (s.rip == w.host_return) s (grind (arith, nat_tests)) rest
 
-chosen : {A : Type 0} (b : Bool) (x y : A) → b ≡ false → (if b then x else y) ≡ y
+pub chosen : {A : Type 0} (b : Bool) (x y : A) → b ≡ false → (if b then x else y) ≡ y
 chosen true x y h = absurd (let e : true ≡ false = h in cc)
 chosen false x y h = refl
 
-taken : {A : Type 0} (b : Bool) (x y : A) → b ≡ true → (if b then x else y) ≡ x
+pub taken : {A : Type 0} (b : Bool) (x y : A) → b ≡ true → (if b then x else y) ≡ x
 taken true x y h = refl
 taken false x y h = absurd (let e : false ≡ true = h in cc)
 
-refuted : (b : Bool) → (b ≡ true → ⊥) → b ≡ false
+pub refuted : (b : Bool) → (b ≡ true → ⊥) → b ≡ false
 refuted true never = absurd (never refl)
 refuted false never = refl
 
@@ -98,14 +98,14 @@ put_other f r v q other = chosen (q == r) v (f q) (grind (arith, nat_tests))
 not_saved : (r : ℕ) → is_saved r ≡ true → (other : ℕ) → is_saved other ≡ false → r ≢ other
 not_saved r saved other not same = absurd (let e : false ≡ true = sym not ∙ (ap is_saved (sym same) ∙ saved) in cc)
 
-both : (a b : Bool) → a && b ≡ true → (a ≡ true) × (b ≡ true)
+pub both : (a b : Bool) → a && b ≡ true → (a ≡ true) × (b ≡ true)
 both true b h = (refl, h)
 both false b h = absurd (let e : false ≡ true = h in cc)
 
 within_true : (a n : ℕ) (range : Range) → is_within a n range ≡ true → IsWithin a n range
 within_true a n range h = let t = both (nat_le range.from a) (nat_le (a + n) range.to) h in (grind (arith, nat_tests), grind (arith, nat_tests))
 
-within_is_true : (a n : ℕ) (range : Range) → IsWithin a n range → is_within a n range ≡ true
+pub within_is_true : (a n : ℕ) (range : Range) → IsWithin a n range → is_within a n range ≡ true
 within_is_true a n range h = let one = h.0 in let two = h.1 in grind (arith, nat_tests)
 
 -- The bytes of a function in every instance are this code, and it lies in a part of the image.

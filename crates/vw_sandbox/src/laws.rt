@@ -9,6 +9,7 @@ ghost use Rattle.vw_insn.specs.Words.{Registers};
 ghost use Rattle.vw_layout.specs.Layout.{IsModule, declared_functions};
 ghost use Rattle.vw_layout.specs.declared.functions.Function.{Function};
 ghost use Rattle.vw_rows.specs.Numbers.{IsBytes};
+ghost use Rattle.vw_rows.specs.Spelling.{Spells};
 ghost use Rattle.vw_state.specs.Code.{code_at, NothingAt};
 ghost use Rattle.vw_state.specs.declared.tables.FunctionTable.{FunctionTable};
 ghost use Rattle.vw_state.specs.declared.tables.Tables.{Tables};
@@ -17,7 +18,7 @@ ghost use Rattle.vw_machine.specs.declared.world.World.{World};
 ghost use Rattle.vw_machine.specs.declared.choice.Choice.{Choice};
 ghost use Rattle.vw_machine.specs.declared.event.Event.TheVariants.{Write, Goto};
 ghost use Rattle.vw_machine.specs.World.{IsLaidOut, IsWithin, heap_range, globals_range};
-ghost use Rattle.vw_machine.specs.Module.{Module, declared_module, module_of};
+ghost use Rattle.vw_machine.specs.Module.{Module, bytes_from, declared_module, module_of};
 ghost use Rattle.vw_machine.specs.State.{Activation, State};
 ghost use Rattle.vw_machine.specs.Standing.{Here, IsOf, StandsAt};
 ghost use Rattle.vw_machine.specs.Step.{Went, Returned, step};
@@ -26,12 +27,23 @@ ghost use Rattle.vw_machine.specs.Entered.{IsInitial};
 ghost use Rattle.vw_sandbox.specs.Runs.{Reaches, RunsTo};
 ghost use Rattle.vw_sandbox.specs.Claims.{HasState, InsnKeepsTo, KeepsRegisters};
 ghost use Rattle.vw_sandbox.specs.Sandboxed.{IsSandboxed, StaysSandboxed};
+ghost use Rattle.vw_sandbox.specs.Maps.{Map, IsSandboxedBy, entries};
+ghost use Rattle.vw_sandbox.specs.Assertions.{Moment, AreKept};
+ghost use Rattle.vw_sandbox.specs.Stated.{AreStated};
 
 use vw_checks::passing_code_is_covered;
-use vw_image::{code_is_settled, file_bytes_are_memory, segments_are_bounded};
-use vw_layout::{functions_are_code, functions_ascend, imports_are_few};
+use vw_image::{
+    code_is_settled, file_bytes_are_memory, segments_are_bounded, words_are_numbered, words_spell,
+};
+use vw_insn::Insn;
+use vw_layout::{
+    call_targets_stand, entries_can_be_called, functions_are_code, functions_ascend,
+    imports_are_few,
+};
+use vw_lift::{effect_is_a_run, lists_are_in_form};
 use vw_machine::one_thing_stands;
 use vw_state::{code_has_its_size, edges_are_post};
+use vw_stmt::words_stay;
 
 /// For each module there is an instance that is laid out well, and for each of its functions a state in which the
 /// host enters it: what is said of every run speaks of some.
@@ -106,6 +118,75 @@ pub fn writes_stay_in_bounds()
         → IsWithin a n (heap_range w) ⊎ IsWithin a n (globals_range w)
         ⊎ ((w.stack_low - 8192 ≤ a) × (a + n ≤ top.rsp0)) }
 {}
+
+/// What is asserted at the points of a module's functions, by function and point: in an instance, about the registers
+/// with which an activation was entered, the activation, and registers, flags and stack.
+pub trait Assertions {
+    /// This is asserted.
+    ghost holds: { World → Function → ℕ → Registers → Activation → Moment → Type 0 };
+}
+
+/// Where each step of each function keeps what is asserted at its points, in every instance that is laid out well, every
+/// run stays in the sandbox, through calls to any depth, stubs, functions of the host and the probe of the stack.
+pub fn asserted_code_is_sandboxed<A: Assertions>()
+    ensures { (file : List ℕ) (map : Map) → IsModule file
+        → ((w : World) → IsLaidOut (module_of file).image (module_of file).imports w
+        → AreKept (module_of file) w map (A.holds w))
+        → IsSandboxedBy (module_of file) map }
+{
+    functions_are_code();
+    code_is_settled();
+    file_bytes_are_memory();
+    segments_are_bounded();
+    code_has_its_size();
+    words_spell();
+    words_are_numbered();
+    call_targets_stand();
+    entries_can_be_called();
+    one_thing_stands();
+}
+
+/// The same where what is asked speaks of the statements of instructions: where each run of an instruction's statements
+/// keeps what is asserted.
+pub fn stated_code_is_sandboxed<A: Assertions>()
+    ensures { (file : List ℕ) (map : Map) → IsModule file → IsBytes file
+        → ((w : World) → IsLaidOut (module_of file).image (module_of file).imports w
+        → AreStated (module_of file) w map (A.holds w))
+        → IsSandboxedBy (module_of file) map }
+{
+    functions_are_code();
+    code_is_settled();
+    file_bytes_are_memory();
+    segments_are_bounded();
+    code_has_its_size();
+    words_spell();
+    words_are_numbered();
+    call_targets_stand();
+    entries_can_be_called();
+    one_thing_stands();
+    effect_is_a_run();
+    lists_are_in_form();
+    words_stay();
+}
+
+/// What is asked can be met: a module whose functions all begin with RET is sandboxed, and its entries are the points.
+pub fn returning_code_is_sandboxed()
+    ensures { (file : List ℕ) → IsModule file
+        → ((w : World) (f : Function) → Contains (module_of file).functions f
+        → Spells (bytes_from ((module_of file).byte w) f.entry 1) Insn.Ret)
+        → IsSandboxedBy (module_of file) entries }
+{
+    functions_are_code();
+    code_is_settled();
+    file_bytes_are_memory();
+    segments_are_bounded();
+    code_has_its_size();
+    words_spell();
+    words_are_numbered();
+    call_targets_stand();
+    entries_can_be_called();
+    one_thing_stands();
+}
 
 /// Where nothing decodes at the entry of a declared function, no tables sandbox the module.
 pub fn unspelled_code_is_not_sandboxed()
