@@ -3,9 +3,11 @@
 ghost use Rattle.vw_insn.specs.Listed.{IsListed};
 
 use crate::line::{Line, Outcome, State, Touched};
+use crate::stepping::step_difference;
+use std::alloc::Global;
 use vw_decode::decode;
 use vw_effect::{Access, After, Open, Reads, Transfer, Write, effect, may_trap, reads};
-use vw_insn::{HighReg, Insn, Place, Reg, XmmOperand, XmmRow};
+use vw_insn::{Base, HighReg, Insn, Place, Reg, XmmOperand, XmmRow};
 
 // Where each instruction stood.
 const AT: u64 = 0x1000_00A2;
@@ -168,4 +170,29 @@ pub fn difference(line: &Line) -> Option<&'static str> {
             difference_of(&insn, AT.wrapping_add(size as u64), line)
         }
     }
+}
+
+// Whether the instruction gives the same wherever it stands.
+fn stands_anywhere(insn: &Insn) -> bool {
+    match insn {
+        Insn::Lea { mem, .. } => mem.base != Base::Rip,
+        _ => true,
+    }
+}
+
+/// The same of a step of the machine. None where the line is not one of those that are stepped: its instruction accesses
+/// no memory, does not count from rip, and goes on to the next one.
+pub fn stepped(alloc: Global, line: &Line) -> Option<Option<&'static str>> {
+    if line.read.is_some() || line.write.is_some() {
+        return None;
+    }
+    let (Outcome::Next(state), Some((insn, _))) = (&line.outcome, decode(line.code.as_slice()))
+    else {
+        return None;
+    };
+    if !stands_anywhere(&insn) {
+        return None;
+    }
+    let chosen = results(&insn, &state.registers, None);
+    Some(step_difference(alloc, line, state, chosen).unwrap_or(Some("memory")))
 }
