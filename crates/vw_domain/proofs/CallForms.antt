@@ -28,7 +28,7 @@ use Rattle.vw_domain.specs.Writes.{is_gone, forgotten_register}
 use Rattle.vw_domain.proofs.Lowers.{true_not_false}
 use Rattle.vw_domain.proofs.SameLemmas.{moved_same, not_true}
 use Rattle.vw_domain.proofs.ForgetLemmas.{mapped_some, mapped_or, slot_above, slots_left}
-use Rattle.vw_domain.proofs.WriteLemmas.{form_same, key_back, some_has}
+use Rattle.vw_domain.proofs.WriteLemmas.{form_same, key_back, some_has, no_some}
 use Rattle.vw_domain.proofs.LossLemmas.{none_or_some}
 use Rattle.vw_domain.proofs.LeaveLemmas.{true_or_false, leave_both, between_low}
 use Rattle.vw_domain.proofs.StorePuts.{kept_some}
@@ -63,10 +63,6 @@ size_tells slots o =
         | inl nothing ↦ ap (λ (x : Option Value). size x (value_at slots (wide_key o))) none ∙ ap (size None) nothing ∙ sym (ap there none ∙ ap is_some nothing)
       ]
     ]
-
-no_some : (x : Option Value) → is_some x ≡ false → x ≡ None
-no_some None h = refl
-no_some (Some v) h = absurd (true_not_false h)
 
 three_false : (x y z : Bool) → x ≡ false → y ≡ false → z ≡ false → (x || (y || z)) ≡ false
 three_false x y z a b d = ap (λ (v : Bool). v || (y || z)) a ∙ ap (λ (v : Bool). v || z) b ∙ d

@@ -1,11 +1,13 @@
 -- A call returned: the state stays one, in its bounds.
-use Rattle.std.proofs.Common.{◌≡◌, ℕ, ◌^◌, ◌≤◌, List, sym, ap, subst, ◌∙◌, arith, None, inl, inr, Bool, true, false}
+use Rattle.std.proofs.Common.{◌≡◌, ℕ, ◌^◌, ◌≤◌, List, refl, sym, ap, subst, ◌∙◌, arith, None, inl, inr, Bool, true, false}
 use Rattle.std.proofs.lemmas.Int.{ints}
-use Rattle.std.specs.Prelude.{ℤ, pos, ◌-ℤ◌, ◌≤ℤ◌, ◌<ℤ◌, ◌||◌, ◌==◌, not, nat_lt, if◌then◌else◌}
+use Rattle.std.specs.Prelude.{ℤ, pos, ◌-ℤ◌, ◌≤ℤ◌, ◌<ℤ◌, ◌||◌, ◌&&◌, ◌==◌, not, nat_lt, if◌then◌else◌}
 use Rattle.std.specs.Option.{option_map}
 use Rattle.vw_lattice.specs.Entries.{value_at}
 use Rattle.vw_locals.specs.Ranges.{IsRanges, is_written, is_between}
-use Rattle.vw_names.specs.declared.spot.Spot.TheVariants.{Reg}
+use Rattle.vw_names.specs.declared.spot.Spot.{Spot}
+use Rattle.vw_names.specs.declared.spot.Spot.TheVariants.{Reg, Flags, Slot}
+use Rattle.vw_names.specs.Division.{root}
 use Rattle.vw_stack.specs.declared.offset.Offset.{Offset}
 use Rattle.vw_stack.specs.declared.offset.Offset.TheVariants as offset
 use Rattle.vw_values.specs.declared.value.Value.{Value}
@@ -17,11 +19,13 @@ use Rattle.vw_domain.specs.declared.parts.Parts.{Parts}
 use Rattle.vw_domain.specs.declared.registers.Register.{Register}
 use Rattle.vw_domain.specs.Registers.{register_at, OffsetFits, IsRegister}
 use Rattle.vw_domain.specs.State.{IsState, IsThere, IsInFrame, IsFact, Fits, key_of, plain_register}
+use Rattle.vw_domain.specs.Abstract.{abstract_of, is_place, is_there, value_of, class_number, is_same}
 use Rattle.vw_domain.specs.Changes.{forget, call_fresh, is_pushed}
 use Rattle.vw_domain.specs.Stores.{is_left, lowest_key, key_limit, IsCallOffset, Calls}
 use Rattle.vw_domain.specs.Writes.{is_gone, forgotten_register}
 use Rattle.vw_domain.proofs.Lowers.{or_cases}
 use Rattle.vw_domain.proofs.ForgetLemmas.{register_left, forget_keeps, slots_among_left}
+use Rattle.vw_domain.proofs.WriteLemmas.{form_same}
 use Rattle.vw_domain.proofs.LeaveLemmas.{or_both}
 use Rattle.vw_domain.proofs.GroupLemmas.{named_left}
 use Rattle.vw_domain.proofs.CallForms.{gone_at, call_leaves, values_t, before, are_now, register_now, written_now}
@@ -100,4 +104,48 @@ module _ (s t : Parts) (c : Offset) (gone : Gone) (kept : ℕ → Bool) (is_not 
   called_fits b fits = record {
     registers = row_among b fits;
     slots = slots_among_left gone calls.left.slots t.slots calls.slots b (λ key v found. fits.slots key v (before s t c gone kept is_not is_s calls key v found));
+  }
+
+-- ---- a probe came back
+
+module _ (t : Parts) (n : ℕ) where
+  abbrev deep : Parts
+  deep = record t { probed = n }
+
+  deep_there : (p : Spot) → is_there deep p ≡ is_there t p
+  deep_there (Reg q) = refl
+  deep_there Flags = refl
+  deep_there (Slot o) = refl
+
+  deep_number : (p : Spot) → class_number deep p ≡ class_number t p
+  deep_number (Reg q) = refl
+  deep_number Flags = refl
+  deep_number (Slot o) = refl
+
+  deep_value : (p : Spot) → value_of deep p ≡ value_of t p
+  deep_value (Reg q) = refl
+  deep_value Flags = refl
+  deep_value (Slot o) = refl
+
+  deep_same : (p q : Spot) → is_same deep p q ≡ is_same t p q
+  deep_same p q =
+      let test : Bool → Bool → ℕ → ℕ → Bool = λ a b m k. is_place p q || (a && (b && (root t.classes m == root t.classes k))) in
+      ap (λ (a : Bool). test a (is_there deep q) (class_number deep p) (class_number deep q)) (deep_there p)
+      ∙ ap (λ (b : Bool). test (is_there t p) b (class_number deep p) (class_number deep q)) (deep_there q)
+      ∙ ap (λ (m : ℕ). test (is_there t p) (is_there t q) m (class_number deep q)) (deep_number p)
+      ∙ ap (λ (k : ℕ). test (is_there t p) (is_there t q) (class_number t p) k) (deep_number q)
+
+  pub deep_form : abstract_of deep ≡ record (abstract_of t) { probed = n }
+  deep_form = form_same (abstract_of deep) (record (abstract_of t) { probed = n }) (λ r. refl) deep_value (λ o. refl) deep_same refl refl (λ o. refl)
+
+  pub deep_state : n ≤ 2 ^ 32 → IsState t → IsState deep
+  deep_state within is = record {
+    registers = is.registers;
+    probed = within;
+    ranges = is.ranges;
+    frame = is.frame;
+    slots = is.slots;
+    classes = is.classes;
+    named = is.named;
+    fact = is.fact;
   }

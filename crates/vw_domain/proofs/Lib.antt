@@ -10,8 +10,12 @@ pub mod FormOrder
 pub mod FlagLemmas
 pub mod RankLemmas
 pub mod LossLemmas
+pub mod EachPlace
 pub mod RefineSteps
 pub mod RefineLemmas
+pub mod EdgeValues
+pub mod TagSets
+pub mod TagsTold
 pub mod AddressOrder
 pub mod Addresses
 pub mod Branches
@@ -43,6 +47,7 @@ pub mod FormSteps
 pub mod FormsOfStates
 pub mod Listings
 pub mod FormParts
+pub mod FrameEdges
 pub mod EntryState
 pub mod LeaveLemmas
 pub mod GroupLemmas

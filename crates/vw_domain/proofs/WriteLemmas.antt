@@ -43,6 +43,10 @@ pub some_has : (x : Option Value) → is_some x ≡ true → (v : Value) × (x �
 some_has None has = absurd (cc)
 some_has (Some v) has = (v, refl)
 
+pub no_some : (x : Option Value) → is_some x ≡ false → x ≡ None
+no_some None h = refl
+no_some (Some v) h = absurd (cc)
+
 reg_same : (q r : ℕ) → Reg q ≡ Reg r → q ≡ r
 reg_same q r same = cc
 

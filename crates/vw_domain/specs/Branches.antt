@@ -1,17 +1,20 @@
 -- The edges of a conditional branch: what the condition tells of the number that was compared.
-use Rattle.std.specs.Prelude.{ℕ, ◌+◌, ◌-◌, ◌^◌, Bool, true, false, ◌&&◌, nat_lt, List, Option, Some, None}
+use Rattle.std.specs.Prelude.{ℕ, ◌+◌, ◌-◌, ◌^◌, pos, ◌-ℤ◌, Bool, true, false, ◌&&◌, ◌||◌, not, nat_lt, is_some, List, ◌∷◌, ◌++◌, Option, Some, None}
+use Rattle.std.specs.List.{list_all}
 use Rattle.vw_insn.specs.declared.registers.Width.{Width}
 use Rattle.vw_insn.specs.declared.operations.Cond.{Cond}
 use Rattle.vw_insn.specs.declared.operations.Cond.TheVariants.{O, No, B, Ae, E, Ne, Be, A, S, Ns, P, Np, L, Ge, Le, G}
 use Rattle.vw_names.specs.declared.spot.Spot.{Spot}
+use Rattle.vw_names.specs.declared.spot.Spot.TheVariants.{Reg, Flags, Slot}
 use Rattle.vw_values.specs.declared.value.Value.{Value}
 use Rattle.vw_values.specs.Refinements.{below, equal}
 use Rattle.vw_domain.specs.declared.parts.Fact.{Fact}
 use Rattle.vw_domain.specs.declared.parts.Fact.TheVariants as fact
 use Rattle.vw_domain.specs.Abstract.{Abstract}
-use Rattle.vw_domain.specs.Changes.{refine, HasEdge, retag, HasTagEdge, tagged_by}
+use Rattle.vw_domain.specs.Changes.{refine, HasEdge, retag, is_other, HasTagEdge, tagged_by}
 use Rattle.vw_domain.specs.Sites.{Site}
 use Rattle.vw_domain.specs.Stands.{width_of}
+use Rattle.vw_domain.specs.StateOf.{row_of}
 
 -- what an edge tells of the compared number: it is below k, or it is k
 pub data Rule : Type 0 where
@@ -70,6 +73,18 @@ rule_number (Is k) = k
 abbrev pub MayGo : Site → List Spot → Abstract → Option (Width × Rule) → Type 0
 MayGo site places st None = Unit {0}
 MayGo site places st (Some r) = HasEdge st (refiner site r.0 r.1) × HasTagEdge st (rule_number r.1) (tags_by st r.1 places)
+
+-- every place that a state can name: the registers, the flags, and the slots at offsets from -2^32 to 2^32. Proofs reason
+-- about this list, and nothing computes it.
+unfoldable pub frame_places : List Spot
+frame_places = row_of Reg 17 0 ++ Flags ∷ row_of (λ n. Slot (pos n -ℤ pos (2 ^ 32))) (2 ^ 33 + 1) 0
+
+-- the same, decided at these places: each one in the class of the flags has a refinement, and none tells another tag
+abbrev pub may_go : Site → List Spot → Abstract → Option (Width × Rule) → Bool
+may_go site places st None = true
+may_go site places st (Some r) =
+    list_all (λ p. not (st.same Flags p) || is_some (refiner site r.0 r.1 (st.values p))) places
+    && list_all (λ p. not (is_other (rule_number r.1) (tags_by st r.1 places p) (st.values p))) places
 
 -- the state that it carries
 abbrev pub edge_state : Site → List Spot → Abstract → Option (Width × Rule) → Abstract

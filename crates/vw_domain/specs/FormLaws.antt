@@ -1,7 +1,8 @@
 -- The laws of the forms of states: each state has one, and what the equations make of one is one.
-use Rattle.std.specs.Prelude.{◌≡◌, ℕ, ◌^◌, ℤ, pos, ◌-ℤ◌, ◌≤ℤ◌, ◌<ℤ◌, Bool, List}
+use Rattle.std.specs.Prelude.{◌≡◌, ◌↔◌, ℕ, ◌^◌, ℤ, pos, ◌-ℤ◌, ◌≤ℤ◌, ◌<ℤ◌, Bool, true, List, Option}
 use Rattle.std.specs.List.{AllByRecursion}
 use Rattle.vw_insn.specs.declared.operations.Cond.{Cond}
+use Rattle.vw_insn.specs.declared.registers.Width.{Width}
 use Rattle.vw_names.specs.declared.spot.Spot.{Spot}
 use Rattle.vw_stmt.specs.declared.statement.Stmt.{Stmt}
 use Rattle.vw_stmt.specs.declared.statement.Stmt.TheVariants as stmt
@@ -12,12 +13,19 @@ use Rattle.vw_domain.specs.Abstract.{Abstract, abstract_of}
 use Rattle.vw_domain.specs.Changes.{call}
 use Rattle.vw_domain.specs.Sites.{Site, IsSite}
 use Rattle.vw_domain.specs.Statements.{apply, applies, finish}
-use Rattle.vw_domain.specs.Branches.{rule_at, edge_state}
+use Rattle.vw_domain.specs.Branches.{Rule, rule_at, MayGo, frame_places, may_go, edge_state}
 use Rattle.vw_domain.specs.Calls.{after_probe}
 use Rattle.vw_domain.specs.FormRanges.{IsStateForm}
+use Rattle.vw_domain.specs.StateOf.{state_of}
 
 abbrev pub StatesHaveForms : Type 0
 StatesHaveForms = (bounds : List ℕ) (s : Parts) → IsValidState bounds s → IsStateForm bounds (abstract_of s)
+
+-- the parts that are made of each form are a state, and the form is that of the state
+abbrev pub StateOfForms : Type 0
+StateOfForms =
+    (bounds : List ℕ) (form : Abstract)
+    → IsStateForm bounds form → IsValidState bounds (state_of form) × (abstract_of (state_of form) ≡ form)
 
 -- each form is that of a state
 abbrev pub FormsAreOfStates : Type 0
@@ -75,3 +83,9 @@ abbrev pub EdgesKeepStateForms : Type 0
 EdgesKeepStateForms =
     (site : Site) (st : Abstract) (places : List Spot) (cond : Cond) (taken : Bool)
     → IsSite site → IsStateForm site.bounds st → IsStateForm site.bounds (edge_state site places st (rule_at cond taken st.fact))
+
+-- whether control may go along an edge of the form of a state is decided at the places that a state can name
+abbrev pub MayGoIsDecided : Type 0
+MayGoIsDecided =
+    (site : Site) (bounds : List ℕ) (st : Abstract) (rule : Option (Width × Rule))
+    → IsStateForm bounds st → (may_go site frame_places st rule ≡ true) ↔ MayGo site frame_places st rule

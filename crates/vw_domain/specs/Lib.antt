@@ -14,6 +14,7 @@ pub mod Ranks
 pub mod Refines
 pub mod Stands
 pub mod FormRanges
+pub mod StateOf
 pub mod Sites
 pub mod Addresses
 pub mod Operands

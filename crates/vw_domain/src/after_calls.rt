@@ -1,8 +1,9 @@
-ghost use Rattle.std.specs.Prelude.{◌≡◌, ◌<◌, ◌^◌, ◌&&◌, ◌==◌, ℕ, List, length, OnOk, OnErr};
+ghost use Rattle.std.specs.Prelude.{◌≡◌, ◌<◌, ◌≤◌, ◌^◌, ◌&&◌, ◌==◌, ℕ, List, length, OnOk, OnErr};
 ghost use Rattle.vw_lattice.specs.Entries.{IsAscending};
+ghost use Rattle.vw_domain.specs.Registers.{IsWithin};
 ghost use Rattle.vw_domain.specs.State.{Fits};
 ghost use Rattle.vw_domain.specs.Abstract.{abstract_of};
-ghost use Rattle.vw_domain.specs.Calls.{after_call};
+ghost use Rattle.vw_domain.specs.Calls.{after_call, after_probe, reach, deeper_by, deeper};
 ghost use Rattle.vw_domain.specs.Stores.{called_register, CallsRow, is_left, key_limit, IsCallOffset, LeavesAll, Pushes, Calls};
 ghost use Rattle.vw_domain.specs.Writes.{is_gone};
 
@@ -99,6 +100,48 @@ fn call(parts: &mut Parts, offset: Offset, gone: Gone) -> Result<(), OutOfMemory
     Ok(())
 }
 
+// How far so many bytes below an offset reach below offset 0.
+fn reach(count: u64, offset: i64) -> u64
+    requires count { count ≤ 2 ^ 31 }
+    requires offset { IsWithin (2 ^ 31) offset }
+    ensures reach { result ≡ reach count offset }
+    ensures within { result ≤ 2 ^ 32 }
+{
+    (count as i64 - offset).max(0) as u64
+}
+
+// The depth that is known once a probe of so many bytes came back, with rsp at this offset.
+fn deeper_by(count: u64, offset: Offset, depth: u64) -> u64
+    requires offset { IsCallOffset offset }
+    requires depth { depth ≤ 2 ^ 32 }
+    ensures depth { result ≡ deeper_by count offset depth }
+    ensures within { result ≤ 2 ^ 32 }
+{
+    match offset {
+        Offset::Unknown => depth,
+        Offset::Known(c) => {
+            if count <= 1 << 31 {
+                depth.max(reach(count, c))
+            } else {
+                depth
+            }
+        }
+    }
+}
+
+// The same where a value tells how many bytes were asked for.
+fn deeper(count: Value, offset: Offset, depth: u64) -> u64
+    requires offset { IsCallOffset offset }
+    requires depth { depth ≤ 2 ^ 32 }
+    ensures depth { result ≡ deeper count offset depth }
+    ensures within { result ≤ 2 ^ 32 }
+{
+    match count {
+        Value::Const(n) => deeper_by(n, offset, depth),
+        _ => depth,
+    }
+}
+
 impl State {
     /// What a call of a function leaves once it returned: the registers that it need not keep hold any numbers (psABI,
     /// 3.2.1), the return address is written, slots below rsp are lost, or all where its offset is not known, and the
@@ -110,6 +153,23 @@ impl State {
     {
         let offset = self.parts.registers[4].offset;
         call(&mut self.parts, offset, Gone::Unsaved)?;
+        Ok(())
+    }
+
+    /// What a call of the probe of the stack leaves once it came back: the registers of the processor hold what they
+    /// held, the return address is written, slots below rsp are lost, or all where its offset is not known, and the
+    /// flags tell nothing. Where rax held a number of at most 2^31, the stack was probed that many bytes below rsp.
+    /// Where memory is refused, the state stays as it was.
+    pub fn call_probe(&mut self) -> Result<(), OutOfMemory>
+        ensures ok { OnOk result (abstract_of self.new ≡ after_probe (abstract_of self.old)) }
+        ensures fits { OnOk result ((b : List ℕ) → Fits b self.old → Fits b self.new) }
+        ensures err { OnErr result (self.new ≡ self.old) }
+    {
+        let count = self.parts.registers[0].value;
+        let offset = self.parts.registers[4].offset;
+        let depth = deeper(count, offset, self.parts.probed);
+        call(&mut self.parts, offset, Gone::Temporary)?;
+        self.parts.probed = depth;
         Ok(())
     }
 }

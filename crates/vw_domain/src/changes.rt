@@ -1,22 +1,20 @@
-ghost use Rattle.std.specs.Prelude.{◌≡◌, ◌↔◌, ◌<◌, ℕ, List, true, IsTrue, None, Some, OnOk, OnErr};
+ghost use Rattle.std.specs.Prelude.{◌≡◌, ◌<◌, ℕ, List, true, None, Some, OnOk, OnErr};
 ghost use Rattle.vw_values.specs.declared.value.Value.{Value};
 ghost use Rattle.vw_values.specs.Values.{IsAmong};
 ghost use Rattle.vw_domain.specs.Registers.{IsRegister, OffsetFits};
 ghost use Rattle.vw_domain.specs.State.{IsFact, Fits};
 ghost use Rattle.vw_domain.specs.Abstract.{abstract_of, IsFrameSpot, is_there};
-ghost use Rattle.vw_domain.specs.Changes.{write, set_flags, lose_slots, refine, HasEdge};
-ghost use Rattle.vw_domain.specs.Refines.{refinement, IsComparison};
+ghost use Rattle.vw_domain.specs.Changes.{write, set_flags, lose_slots};
 ghost use Rattle.vw_domain.specs.Statements.{finish};
 
 use crate::parts::Fact;
-use crate::refines::{Comparison, both, refine_row, refine_slots};
 use crate::registers::Register;
 use crate::state::State;
 use crate::writes::{copy_place, follow_place, write};
 use vw_bits::OutOfMemory;
 use vw_names::Spot;
 use vw_stack::Offset;
-use vw_values::{Bounds, Value, below_is_sound, equal_is_sound};
+use vw_values::Value;
 
 // The least key of a slot, and the first number above all keys.
 const LOWEST_KEY: i64 = -(1 << 33);
@@ -87,26 +85,6 @@ impl State {
     {
         self.parts.classes.leave_slots(LOWEST_KEY, KEYS_END);
         self.parts.slots.cut_range(LOWEST_KEY, KEYS_END);
-    }
-
-    /// Refines the values in the class of the flags by a comparison of the number there, and answers whether in each of
-    /// them some number passes; where none does, control does not go this way. Takes no memory.
-    pub fn refine(&mut self, comparison: Comparison, bounds: &Bounds) -> bool
-        requires comparison { IsComparison comparison }
-        requires fits { Fits bounds.now self.old }
-        ensures edge { IsTrue result
-            ↔ HasEdge (abstract_of self.old) (refinement comparison bounds.now) }
-        ensures values { abstract_of self.new
-            ≡ refine (abstract_of self.old) (refinement comparison bounds.now) }
-        ensures fits { Fits bounds.now self.new }
-    {
-        bounds.are_bounds();
-        below_is_sound();
-        equal_is_sound();
-        let parts = &mut self.parts;
-        let in_row = refine_row(&mut parts.registers, &parts.classes, comparison, bounds);
-        let in_slots = refine_slots(&mut parts.slots, &parts.classes, comparison, bounds);
-        both(in_row, in_slots)
     }
 
     /// After an instruction the register number 16 may hold any number, which nothing else tells of. Takes no memory.

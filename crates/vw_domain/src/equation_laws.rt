@@ -4,7 +4,7 @@ ghost use Rattle.vw_domain.specs.ValueLaws.{ValueLaws};
 ghost use Rattle.vw_domain.specs.EquationLaws.{StatementsStand, AccessesArePermitted, StatementsRise, StatementsKeepForms, ChecksRise};
 ghost use Rattle.vw_domain.specs.EquationLaws.{ListsRise, ListsKeepForms, ListChecksRise, EndsStand, EndsRise, EndsKeepForms};
 ghost use Rattle.vw_domain.specs.EquationLaws.{LowerFormsStandForLess, BranchesStand, BranchesRise, CallsStand, ProbesStand, CallsRise, CallsKeepForms, ProbesRise, TransferChecksRise, ValueChecksRise};
-ghost use Rattle.vw_domain.specs.FormLaws.{StatementsKeepStateForms, ListsKeepStateForms, EndsKeepStateForms, CallsKeepStateForms, ProbesKeepStateForms, EdgesKeepStateForms};
+ghost use Rattle.vw_domain.specs.FormLaws.{StatementsKeepStateForms, ListsKeepStateForms, EndsKeepStateForms, CallsKeepStateForms, ProbesKeepStateForms, EdgesKeepStateForms, MayGoIsDecided};
 
 use vw_values::{
     ands_are_sound, below_is_greatest, below_is_sound, differences_are_sound, equal_is_sound,
@@ -75,6 +75,11 @@ pub fn branches_are_sound()
 {
     laws_of_values();
 }
+
+/// Whether control may go along an edge of a branch is decided at the places that a state can name.
+pub fn edges_are_decided()
+    ensures { MayGoIsDecided }
+{}
 
 /// What the equation of a call leaves stands for what a callee may leave, and rises with the state before.
 pub fn calls_are_sound()

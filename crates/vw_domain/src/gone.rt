@@ -27,7 +27,8 @@ pub fn is_gone(gone: Gone, register: u8) -> bool
     }
 }
 
-fn register_of(via: Via) -> u8
+// The register that tells where a tag was read.
+pub fn register_of(via: Via) -> u8
     ensures { result ≡ register_of via }
 {
     match via {

@@ -1,7 +1,7 @@
 //! What holds of all states, each the contract of a function that does nothing.
 
 ghost use Rattle.vw_domain.specs.Forms.{FormsTellStates, OrderIsThatOfForms};
-ghost use Rattle.vw_domain.specs.FormLaws.{StatesHaveForms, FormsAreOfStates, EntryIsState};
+ghost use Rattle.vw_domain.specs.FormLaws.{StatesHaveForms, FormsAreOfStates, StateOfForms, EntryIsState};
 ghost use Rattle.vw_domain.specs.Ranks.{StateRanksAreBounded, StateRanksAreSmall};
 ghost use Rattle.vw_domain.specs.Stands.{LowerSaysMore, LowerStandsForLess};
 
@@ -21,10 +21,12 @@ pub fn forms_tell_states()
     ensures states { FormsTellStates }
 {}
 
-/// The abstract form of each state keeps to the ranges of forms, and each form that keeps to them is that of a state.
+/// The abstract form of each state keeps to the ranges of forms, and each form that keeps to them is that of a state:
+/// of the one that is built of it.
 pub fn states_have_forms()
     ensures forms { StatesHaveForms }
     ensures states { FormsAreOfStates }
+    ensures built { StateOfForms }
 {}
 
 /// What is known at a function's entry is a state, whatever the bounds.

@@ -3,7 +3,9 @@
 
 mod after_calls;
 mod among;
+mod branch_edges;
 mod changes;
+mod edge_tags;
 mod equation_laws;
 mod forgets;
 mod gone;
@@ -20,9 +22,11 @@ mod state_parts;
 mod stores;
 mod writes;
 
+pub use branch_edges::frame_holds_places;
 pub use equation_laws::{
-    branches_are_sound, calls_are_sound, instruction_ends_are_sound, lower_forms_stand_for_less,
-    state_forms_are_kept, statement_lists_are_sound, statements_are_sound, transfer_checks_rise,
+    branches_are_sound, calls_are_sound, edges_are_decided, instruction_ends_are_sound,
+    lower_forms_stand_for_less, state_forms_are_kept, statement_lists_are_sound,
+    statements_are_sound, transfer_checks_rise,
 };
 pub use laws::{
     entry_is_state, forms_tell_states, lower_states_stand_for_less, state_ranks_are_small,
@@ -36,5 +40,7 @@ pub use state_of::PartsError;
 pub use state_parts::{Slot, StateParts};
 pub use stores::Content;
 
+#[cfg(test)]
+mod edge_tests;
 #[cfg(test)]
 mod tests;

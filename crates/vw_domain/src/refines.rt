@@ -1,9 +1,10 @@
 ghost use Rattle.std.specs.Prelude.{◌≡◌, ◌<◌, ◌&&◌, length};
 ghost use Rattle.vw_names.specs.Spot.{number};
-ghost use Rattle.vw_domain.specs.Refines.{refinement, IsComparison, is_compared, passes, RefinesRow, RefinesSlots};
+ghost use Rattle.vw_domain.specs.Refines.{refinement, IsComparison, is_compared, passes, left_value, may_pass, EachRegister, EachSlot};
 ghost use Rattle.vw_domain.specs.State.{AreSlots};
 ghost use Rattle.vw_domain.specs.Changes.{refined_by};
 
+use crate::edge_tags::{Tags, is_other, marked};
 use crate::registers::Register;
 use vw_insn::Width;
 use vw_lattice::MapOf;
@@ -31,7 +32,7 @@ fn refinement(value: Value, comparison: Comparison, bounds: &Bounds) -> Option<V
 }
 
 // Whether a place is in the class of the flags.
-fn is_compared(classes: &Classes, place: Spot) -> bool
+pub fn is_compared(classes: &Classes, place: Spot) -> bool
     ensures { result ≡ is_compared classes.now (number place) }
 {
     classes.same(Spot::Flags, place)
@@ -64,52 +65,83 @@ pub fn both(a: bool, b: bool) -> bool
     a && b
 }
 
-// Refines the values of the registers in the class of the flags, and answers whether in each some number passes.
-pub fn refine_row(
+// What the edge leaves of the value in a place, and whether control may go along it, as far as that value tells.
+fn left_value(
+    value: Value,
+    place: Spot,
+    classes: &Classes,
+    comparison: Comparison,
+    tags: &Tags,
+    bounds: &Bounds,
+) -> (Value, bool)
+    requires { IsComparison comparison }
+    ensures value { result.0 ≡ left_value classes.now (refinement comparison bounds.now) tags.now
+        (number place) value }
+    ensures passes { result.1 ≡ may_pass classes.now (refinement comparison bounds.now) tags.now
+        (number place) value }
+{
+    let is_in = is_compared(classes, place);
+    let refined = refined_value(value, is_in, comparison, bounds);
+    let other = is_other(value, tags, classes, place);
+    let left = marked(refined.0, tags, classes, place);
+    (left, both(refined.1, !other))
+}
+
+// Refines the values of the registers in the class of the flags and marks those of entries, and answers whether control
+// may go along the edge as far as they tell.
+pub fn edge_row(
     row: &mut [Register],
     classes: &Classes,
     comparison: Comparison,
+    tags: &Tags,
     bounds: &Bounds,
 ) -> bool
     requires row { length row.old ≡ 17 }
     requires comparison { IsComparison comparison }
-    ensures { RefinesRow classes.now (refinement comparison bounds.now) row.old row.new result }
+    ensures { EachRegister (left_value classes.now (refinement comparison bounds.now) tags.now)
+        (may_pass classes.now (refinement comparison bounds.now) tags.now) row.old row.new result }
 {
     let mut all = true;
     for i in 0..17u8 {
         let register = row[i as usize];
-        let is_in = is_compared(classes, Spot::Reg(i));
-        let refined = refined_value(register.value, is_in, comparison, bounds);
+        let left = left_value(
+            register.value,
+            Spot::Reg(i),
+            classes,
+            comparison,
+            tags,
+            bounds,
+        );
         row[i as usize] = Register {
             offset: register.offset,
-            value: refined.0,
+            value: left.0,
         };
-        all = both(all, refined.1);
+        all = both(all, left.1);
     }
     all
 }
 
 // The same for the slots.
-pub fn refine_slots(
+pub fn edge_slots(
     slots: &mut MapOf<Value>,
     classes: &Classes,
     comparison: Comparison,
+    tags: &Tags,
     bounds: &Bounds,
 ) -> bool
     requires slots { AreSlots slots.old }
     requires comparison { IsComparison comparison }
-    ensures { RefinesSlots classes.now (refinement comparison bounds.now)
-        slots.old slots.new result }
+    ensures { EachSlot (left_value classes.now (refinement comparison bounds.now) tags.now)
+        (may_pass classes.now (refinement comparison bounds.now) tags.now) slots.old slots.new result }
 {
     let mut all = true;
     for i in 0..slots.len() {
         match slots.nth(i) {
             None => return all,
             Some((key, value)) => {
-                let is_in = is_compared(classes, Spot::Slot(key));
-                let refined = refined_value(*value, is_in, comparison, bounds);
-                slots.set_nth(i, refined.0);
-                all = both(all, refined.1);
+                let left = left_value(*value, Spot::Slot(key), classes, comparison, tags, bounds);
+                slots.set_nth(i, left.0);
+                all = both(all, left.1);
             }
         }
     }

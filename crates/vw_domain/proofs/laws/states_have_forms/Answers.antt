@@ -7,3 +7,6 @@ returns-clause-forms c = FormsOfStates.states_have_forms
 
 pub returns-clause-states : goal.returns-clause-states
 returns-clause-states c = FormParts.forms_are_of_states
+
+pub returns-clause-built : goal.returns-clause-built
+returns-clause-built c = FormParts.state_of_forms
