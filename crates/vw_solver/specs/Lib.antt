@@ -1,4 +1,5 @@
 pub mod Solution
+pub mod Rising
 pub mod Landing
 pub mod Visited
 pub mod Tables

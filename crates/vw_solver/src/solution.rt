@@ -1,6 +1,7 @@
 ghost use Rattle.std.specs.Prelude.{◌≡◌, ℕ, ◌+◌, ◌-◌, ◌*◌, ◌<◌, ◌≤◌, [], length, replicate, true, false, Some, None, IfOk, OnOk, OnErr};
 ghost use Rattle.std.specs.List.{All};
 ghost use Rattle.vw_solver.specs.Solution.{state_at, IsLeast, HoldsReachedPoints, weight_of, weights_from};
+ghost use Rattle.vw_solver.specs.Rising.{AreRising};
 ghost use Rattle.vw_solver.specs.Standing.{IsTable, RanksAtMost};
 ghost use Rattle.vw_solver.specs.Seed.{HasSeed, GrownFrom, TicksFrom, BoundFrom};
 ghost use Rattle.vw_solver.specs.Landing.{AllValid, AllHaveStates, Visits};
@@ -25,6 +26,7 @@ fn visit<E: Equations, L: Ledger>(
     out: &mut Edges<E::State>,
     steps: &mut Steps<L>,
 ) -> Result<bool, OutOfMemory>
+    requires rise { AreRising E.State.below (E.State.valid (E.bounds equations.now)) (E.edges equations.now) (E.points equations.now) }
     requires size { length states.old ≡ E.points equations.now }
     requires valid { AllValid (E.State.valid (E.bounds equations.now)) states.old }
     requires there { (s : E.State) × (state_at states.old point ≡ Some s) }
@@ -50,6 +52,7 @@ fn settle<E: Equations, L: Ledger>(
     out: &mut Edges<E::State>,
     steps: &mut Steps<L>,
 ) -> Result<bool, OutOfMemory>
+    requires rise { AreRising E.State.below (E.State.valid (E.bounds equations.now)) (E.edges equations.now) (E.points equations.now) }
     requires size { length states.old ≡ E.points equations.now }
     requires valid { AllValid (E.State.valid (E.bounds equations.now)) states.old }
     requires waiting { AllHaveStates states.old waiting.old.keys }
@@ -68,10 +71,10 @@ fn settle<E: Equations, L: Ledger>(
     Ok(false)
 }
 
-/// The least solution of the equations in which `start` has at least the state `first`. The steps that it
-/// counts are those of its evaluations: at most the sum of the weights of the points reached, times one
-/// more than the greatest rank of a state that stands at a point of a table to which edges land, one by one
-/// in any order, from the table with the first state alone. OutOfMemory where the allocator refuses a
+/// The least solution of the equations, whose edges rise, in which `start` has at least the state `first`. The
+/// steps that it counts are those of its evaluations: at most the sum of the weights of the points reached,
+/// times one more than the greatest rank of a state that stands at a point of a table to which edges land, one
+/// by one in any order, from the table with the first state alone. OutOfMemory where the allocator refuses a
 /// request: then only the steps have changed, by at most the same product over all points.
 pub fn solve<E: Equations, L: Ledger>(
     alloc: Global,
@@ -80,6 +83,7 @@ pub fn solve<E: Equations, L: Ledger>(
     first: E::State,
     steps: &mut Steps<L>,
 ) -> Result<Solved<E::State>, OutOfMemory>
+    requires rise { AreRising E.State.below (E.State.valid (E.bounds equations.now)) (E.edges equations.now) (E.points equations.now) }
     requires start { start < E.points equations.now }
     requires first { E.State.valid (E.bounds equations.now) first }
     ensures least { IfOk result (IsLeast E.State.below (E.State.valid (E.bounds equations.now)) (E.edges equations.now) (E.points equations.now) start first) }
@@ -107,10 +111,11 @@ pub fn solve<E: Equations, L: Ledger>(
     Ok(states)
 }
 
-/// The least solution of the equations, from a table that is lower than every solution, and lacks of one
-/// only that the edges of these points land. It counts the steps of its evaluations, at most as many as
-/// `solve` may, from each start and first state whose solutions the table is lower than. OutOfMemory where the
-/// allocator refuses a request: then only the steps have changed, by at most the product over all points.
+/// The least solution of the equations, whose edges rise, from a table that is lower than every solution, and
+/// lacks of one only that the edges of these points land. It counts the steps of its evaluations, at most as
+/// many as `solve` may, from each start and first state whose solutions the table is lower than. OutOfMemory
+/// where the allocator refuses a request: then only the steps have changed, by at most the product over all
+/// points.
 pub fn resume<E: Equations, L: Ledger>(
     alloc: Global,
     equations: &E,
@@ -118,6 +123,7 @@ pub fn resume<E: Equations, L: Ledger>(
     points: BTreeSet<u32>,
     steps: &mut Steps<L>,
 ) -> Result<Solved<E::State>, OutOfMemory>
+    requires rise { AreRising E.State.below (E.State.valid (E.bounds equations.now)) (E.edges equations.now) (E.points equations.now) }
     requires seed { HasSeed E.State.below (E.State.valid (E.bounds equations.now)) (E.edges equations.now) (E.points equations.now) table points.keys }
     ensures grown { IfOk result (GrownFrom E.State.below (E.State.valid (E.bounds equations.now)) (E.edges equations.now) (E.points equations.now) table points.keys) }
     ensures ticks { IfOk result (TicksFrom E.State.below (E.State.valid (E.bounds equations.now)) (E.State.rank (E.bounds equations.now)) (E.edges equations.now) (E.weight equations.now) (E.points equations.now) table points.keys steps.old steps.new) }

@@ -1,18 +1,19 @@
 use Rattle.std.proofs.Common.{◌≡◌, ◌+◌, ◌-◌, ℕ, [], ◌∷◌, List, Option, Some, None, set, replicate, ap, sym, subst, ◌∙◌, arith}
 use Rattle.std.specs.Ordering.{nat_cmp}
 use Rattle.std.specs.BTreeSet.{insert_key}
+use Rattle.vw_solver.specs.Rising.{AreRising}
 use Rattle.vw_solver.proofs.Search.{Laws, Progress, first_progress, visits_step, finish, finish_reached, finish_ticks, within_bound, failed_bound, all_wait}
 use Rattle.vw_solver.proofs.solution.solve.Given.{Over}
 use Rattle.vw_solver.proofs.solution.solve.Goals as goal
 
-laws_of : (g : Over) (e : g.row.E.Denot) → Laws g.E.State.Lattice.below (g.E.State.Lattice.valid (g.E.Equations.bounds e)) (g.E.State.Lattice.rank (g.E.Equations.bounds e)) (g.E.Equations.edges e) (g.E.Equations.points e)
-laws_of g e = record {
+laws_of : (g : Over) (e : g.row.E.Denot) → AreRising g.E.State.Lattice.below (g.E.State.Lattice.valid (g.E.Equations.bounds e)) (g.E.Equations.edges e) (g.E.Equations.points e) → Laws g.E.State.Lattice.below (g.E.State.Lattice.valid (g.E.Equations.bounds e)) (g.E.State.Lattice.rank (g.E.Equations.bounds e)) (g.E.Equations.edges e) (g.E.Equations.points e)
+laws_of g e rise = record {
   reflexive = g.met.E.State.Lattice.reflexive (g.E.Equations.bounds e);
   transitive = g.met.E.State.Lattice.transitive (g.E.Equations.bounds e);
   falls = g.met.E.State.Lattice.rank_falls (g.E.Equations.bounds e);
   strict = g.met.E.State.Lattice.rank_strict (g.E.Equations.bounds e);
-  valid_edges = g.met.E.Equations.valid_edges e;
-  monotone = g.met.E.Equations.monotone e;
+  valid_edges = rise.valid_edges;
+  monotone = rise.monotone;
 }
 
 pub rounds-init : goal.rounds-init
@@ -28,7 +29,7 @@ rounds-init g c =
     let nothing : 0 ≡ c.args.steps.now - c.args.steps.now = omega arith in
     record {
       counts = omega arith;
-      run = subst P (sym keys_are) (subst N nothing (first_progress g.E.State.Lattice.below (g.E.State.Lattice.valid (g.E.Equations.bounds c.args.equations.now)) (g.E.State.Lattice.rank (g.E.Equations.bounds c.args.equations.now)) (g.E.Equations.edges c.args.equations.now) (g.E.Equations.weight c.args.equations.now) (g.E.Equations.points c.args.equations.now) c.args.start c.args.first (laws_of g c.args.equations.now) table table_is c.requires.start c.requires.first));
+      run = subst P (sym keys_are) (subst N nothing (first_progress g.E.State.Lattice.below (g.E.State.Lattice.valid (g.E.Equations.bounds c.args.equations.now)) (g.E.State.Lattice.rank (g.E.Equations.bounds c.args.equations.now)) (g.E.Equations.edges c.args.equations.now) (g.E.Equations.weight c.args.equations.now) (g.E.Equations.points c.args.equations.now) c.args.start c.args.first (laws_of g c.args.equations.now c.requires.rise) table table_is c.requires.start c.requires.first));
     }
 
 pub settle-requires-clause-waiting : goal.settle-requires-clause-waiting
@@ -36,7 +37,7 @@ settle-requires-clause-waiting g c = all_wait g.E.State.Lattice.below (g.E.State
 
 pub rounds-preserved : goal.rounds-preserved
 rounds-preserved g c =
-    let run = visits_step g.E.State.Lattice.below (g.E.State.Lattice.valid (g.E.Equations.bounds c.args.equations.now)) (g.E.State.Lattice.rank (g.E.Equations.bounds c.args.equations.now)) (g.E.Equations.edges c.args.equations.now) (g.E.Equations.weight c.args.equations.now) (g.E.Equations.points c.args.equations.now) c.args.start c.args.first (laws_of g c.args.equations.now) c.rounds.states c.rounds.waiting.keys (c.rounds.steps - c.args.steps.now) (c.settle.new.steps - c.rounds.steps) c.settle.new.states c.settle.new.waiting.keys c.rounds.invariant.run c.in_ok-met.ensures.visits in
+    let run = visits_step g.E.State.Lattice.below (g.E.State.Lattice.valid (g.E.Equations.bounds c.args.equations.now)) (g.E.State.Lattice.rank (g.E.Equations.bounds c.args.equations.now)) (g.E.Equations.edges c.args.equations.now) (g.E.Equations.weight c.args.equations.now) (g.E.Equations.points c.args.equations.now) c.args.start c.args.first (laws_of g c.args.equations.now c.requires.rise) c.rounds.states c.rounds.waiting.keys (c.rounds.steps - c.args.steps.now) (c.settle.new.steps - c.rounds.steps) c.settle.new.states c.settle.new.waiting.keys c.rounds.invariant.run c.in_ok-met.ensures.visits in
     let sums : (c.rounds.steps - c.args.steps.now) + (c.settle.new.steps - c.rounds.steps) ≡ c.settle.new.steps - c.args.steps.now = omega (arith, c.rounds.invariant.counts, c.in_ok-met.ensures.counts) in
     let N : ℕ → Type 0 = λ n. Progress g.E.State.Lattice.below (g.E.State.Lattice.valid (g.E.Equations.bounds c.args.equations.now)) (g.E.State.Lattice.rank (g.E.Equations.bounds c.args.equations.now)) (g.E.Equations.edges c.args.equations.now) (g.E.Equations.weight c.args.equations.now) (g.E.Equations.points c.args.equations.now) c.args.start c.args.first c.settle.new.states c.settle.new.waiting.keys [] n in
     record { counts = omega (arith, c.rounds.invariant.counts, c.in_ok-met.ensures.counts); run = subst N sums run }
@@ -46,23 +47,23 @@ rounds-smaller g c = c.in_ok-met.ensures.fewer c.if-not-met.false
 
 pub returns-clause-least : goal.returns-clause-least
 returns-clause-least g c =
-    let run = visits_step g.E.State.Lattice.below (g.E.State.Lattice.valid (g.E.Equations.bounds c.args.equations.now)) (g.E.State.Lattice.rank (g.E.Equations.bounds c.args.equations.now)) (g.E.Equations.edges c.args.equations.now) (g.E.Equations.weight c.args.equations.now) (g.E.Equations.points c.args.equations.now) c.args.start c.args.first (laws_of g c.args.equations.now) c.rounds.states c.rounds.waiting.keys (c.rounds.steps - c.args.steps.now) (c.settle.new.steps - c.rounds.steps) c.settle.new.states c.settle.new.waiting.keys c.rounds.invariant.run c.in_ok-met.ensures.visits in
+    let run = visits_step g.E.State.Lattice.below (g.E.State.Lattice.valid (g.E.Equations.bounds c.args.equations.now)) (g.E.State.Lattice.rank (g.E.Equations.bounds c.args.equations.now)) (g.E.Equations.edges c.args.equations.now) (g.E.Equations.weight c.args.equations.now) (g.E.Equations.points c.args.equations.now) c.args.start c.args.first (laws_of g c.args.equations.now c.requires.rise) c.rounds.states c.rounds.waiting.keys (c.rounds.steps - c.args.steps.now) (c.settle.new.steps - c.rounds.steps) c.settle.new.states c.settle.new.waiting.keys c.rounds.invariant.run c.in_ok-met.ensures.visits in
     let sums : (c.rounds.steps - c.args.steps.now) + (c.settle.new.steps - c.rounds.steps) ≡ c.settle.new.steps - c.args.steps.now = omega (arith, c.rounds.invariant.counts, c.in_ok-met.ensures.counts) in
     let W : List ℕ → Type 0 = λ ks. Progress g.E.State.Lattice.below (g.E.State.Lattice.valid (g.E.Equations.bounds c.args.equations.now)) (g.E.State.Lattice.rank (g.E.Equations.bounds c.args.equations.now)) (g.E.Equations.edges c.args.equations.now) (g.E.Equations.weight c.args.equations.now) (g.E.Equations.points c.args.equations.now) c.args.start c.args.first c.settle.new.states ks [] ((c.rounds.steps - c.args.steps.now) + (c.settle.new.steps - c.rounds.steps)) in
     let done = subst W (c.in_ok-met.ensures.settled c.if-not-met.true) run in
-    (finish g.E.State.Lattice.below (g.E.State.Lattice.valid (g.E.Equations.bounds c.args.equations.now)) (g.E.State.Lattice.rank (g.E.Equations.bounds c.args.equations.now)) (g.E.Equations.edges c.args.equations.now) (g.E.Equations.weight c.args.equations.now) (g.E.Equations.points c.args.equations.now) c.args.start c.args.first (laws_of g c.args.equations.now) c.settle.new.states ((c.rounds.steps - c.args.steps.now) + (c.settle.new.steps - c.rounds.steps)) done)
+    (finish g.E.State.Lattice.below (g.E.State.Lattice.valid (g.E.Equations.bounds c.args.equations.now)) (g.E.State.Lattice.rank (g.E.Equations.bounds c.args.equations.now)) (g.E.Equations.edges c.args.equations.now) (g.E.Equations.weight c.args.equations.now) (g.E.Equations.points c.args.equations.now) c.args.start c.args.first (laws_of g c.args.equations.now c.requires.rise) c.settle.new.states ((c.rounds.steps - c.args.steps.now) + (c.settle.new.steps - c.rounds.steps)) done)
 
 pub returns-clause-reached : goal.returns-clause-reached
 returns-clause-reached g c =
-    let run = visits_step g.E.State.Lattice.below (g.E.State.Lattice.valid (g.E.Equations.bounds c.args.equations.now)) (g.E.State.Lattice.rank (g.E.Equations.bounds c.args.equations.now)) (g.E.Equations.edges c.args.equations.now) (g.E.Equations.weight c.args.equations.now) (g.E.Equations.points c.args.equations.now) c.args.start c.args.first (laws_of g c.args.equations.now) c.rounds.states c.rounds.waiting.keys (c.rounds.steps - c.args.steps.now) (c.settle.new.steps - c.rounds.steps) c.settle.new.states c.settle.new.waiting.keys c.rounds.invariant.run c.in_ok-met.ensures.visits in
+    let run = visits_step g.E.State.Lattice.below (g.E.State.Lattice.valid (g.E.Equations.bounds c.args.equations.now)) (g.E.State.Lattice.rank (g.E.Equations.bounds c.args.equations.now)) (g.E.Equations.edges c.args.equations.now) (g.E.Equations.weight c.args.equations.now) (g.E.Equations.points c.args.equations.now) c.args.start c.args.first (laws_of g c.args.equations.now c.requires.rise) c.rounds.states c.rounds.waiting.keys (c.rounds.steps - c.args.steps.now) (c.settle.new.steps - c.rounds.steps) c.settle.new.states c.settle.new.waiting.keys c.rounds.invariant.run c.in_ok-met.ensures.visits in
     let sums : (c.rounds.steps - c.args.steps.now) + (c.settle.new.steps - c.rounds.steps) ≡ c.settle.new.steps - c.args.steps.now = omega (arith, c.rounds.invariant.counts, c.in_ok-met.ensures.counts) in
     let W : List ℕ → Type 0 = λ ks. Progress g.E.State.Lattice.below (g.E.State.Lattice.valid (g.E.Equations.bounds c.args.equations.now)) (g.E.State.Lattice.rank (g.E.Equations.bounds c.args.equations.now)) (g.E.Equations.edges c.args.equations.now) (g.E.Equations.weight c.args.equations.now) (g.E.Equations.points c.args.equations.now) c.args.start c.args.first c.settle.new.states ks [] ((c.rounds.steps - c.args.steps.now) + (c.settle.new.steps - c.rounds.steps)) in
     let done = subst W (c.in_ok-met.ensures.settled c.if-not-met.true) run in
-    (finish_reached g.E.State.Lattice.below (g.E.State.Lattice.valid (g.E.Equations.bounds c.args.equations.now)) (g.E.State.Lattice.rank (g.E.Equations.bounds c.args.equations.now)) (g.E.Equations.edges c.args.equations.now) (g.E.Equations.weight c.args.equations.now) (g.E.Equations.points c.args.equations.now) c.args.start c.args.first (laws_of g c.args.equations.now) c.settle.new.states ((c.rounds.steps - c.args.steps.now) + (c.settle.new.steps - c.rounds.steps)) done)
+    (finish_reached g.E.State.Lattice.below (g.E.State.Lattice.valid (g.E.Equations.bounds c.args.equations.now)) (g.E.State.Lattice.rank (g.E.Equations.bounds c.args.equations.now)) (g.E.Equations.edges c.args.equations.now) (g.E.Equations.weight c.args.equations.now) (g.E.Equations.points c.args.equations.now) c.args.start c.args.first (laws_of g c.args.equations.now c.requires.rise) c.settle.new.states ((c.rounds.steps - c.args.steps.now) + (c.settle.new.steps - c.rounds.steps)) done)
 
 pub returns-clause-stands : goal.returns-clause-stands
 returns-clause-stands g c =
-    let run = visits_step g.E.State.Lattice.below (g.E.State.Lattice.valid (g.E.Equations.bounds c.args.equations.now)) (g.E.State.Lattice.rank (g.E.Equations.bounds c.args.equations.now)) (g.E.Equations.edges c.args.equations.now) (g.E.Equations.weight c.args.equations.now) (g.E.Equations.points c.args.equations.now) c.args.start c.args.first (laws_of g c.args.equations.now) c.rounds.states c.rounds.waiting.keys (c.rounds.steps - c.args.steps.now) (c.settle.new.steps - c.rounds.steps) c.settle.new.states c.settle.new.waiting.keys c.rounds.invariant.run c.in_ok-met.ensures.visits in
+    let run = visits_step g.E.State.Lattice.below (g.E.State.Lattice.valid (g.E.Equations.bounds c.args.equations.now)) (g.E.State.Lattice.rank (g.E.Equations.bounds c.args.equations.now)) (g.E.Equations.edges c.args.equations.now) (g.E.Equations.weight c.args.equations.now) (g.E.Equations.points c.args.equations.now) c.args.start c.args.first (laws_of g c.args.equations.now c.requires.rise) c.rounds.states c.rounds.waiting.keys (c.rounds.steps - c.args.steps.now) (c.settle.new.steps - c.rounds.steps) c.settle.new.states c.settle.new.waiting.keys c.rounds.invariant.run c.in_ok-met.ensures.visits in
     let sums : (c.rounds.steps - c.args.steps.now) + (c.settle.new.steps - c.rounds.steps) ≡ c.settle.new.steps - c.args.steps.now = omega (arith, c.rounds.invariant.counts, c.in_ok-met.ensures.counts) in
     let W : List ℕ → Type 0 = λ ks. Progress g.E.State.Lattice.below (g.E.State.Lattice.valid (g.E.Equations.bounds c.args.equations.now)) (g.E.State.Lattice.rank (g.E.Equations.bounds c.args.equations.now)) (g.E.Equations.edges c.args.equations.now) (g.E.Equations.weight c.args.equations.now) (g.E.Equations.points c.args.equations.now) c.args.start c.args.first c.settle.new.states ks [] ((c.rounds.steps - c.args.steps.now) + (c.settle.new.steps - c.rounds.steps)) in
     let done = subst W (c.in_ok-met.ensures.settled c.if-not-met.true) run in
@@ -70,21 +71,21 @@ returns-clause-stands g c =
 
 pub returns-clause-ticks : goal.returns-clause-ticks
 returns-clause-ticks g c = λ most at_most.
-    let run = visits_step g.E.State.Lattice.below (g.E.State.Lattice.valid (g.E.Equations.bounds c.args.equations.now)) (g.E.State.Lattice.rank (g.E.Equations.bounds c.args.equations.now)) (g.E.Equations.edges c.args.equations.now) (g.E.Equations.weight c.args.equations.now) (g.E.Equations.points c.args.equations.now) c.args.start c.args.first (laws_of g c.args.equations.now) c.rounds.states c.rounds.waiting.keys (c.rounds.steps - c.args.steps.now) (c.settle.new.steps - c.rounds.steps) c.settle.new.states c.settle.new.waiting.keys c.rounds.invariant.run c.in_ok-met.ensures.visits in
+    let run = visits_step g.E.State.Lattice.below (g.E.State.Lattice.valid (g.E.Equations.bounds c.args.equations.now)) (g.E.State.Lattice.rank (g.E.Equations.bounds c.args.equations.now)) (g.E.Equations.edges c.args.equations.now) (g.E.Equations.weight c.args.equations.now) (g.E.Equations.points c.args.equations.now) c.args.start c.args.first (laws_of g c.args.equations.now c.requires.rise) c.rounds.states c.rounds.waiting.keys (c.rounds.steps - c.args.steps.now) (c.settle.new.steps - c.rounds.steps) c.settle.new.states c.settle.new.waiting.keys c.rounds.invariant.run c.in_ok-met.ensures.visits in
     let sums : (c.rounds.steps - c.args.steps.now) + (c.settle.new.steps - c.rounds.steps) ≡ c.settle.new.steps - c.args.steps.now = omega (arith, c.rounds.invariant.counts, c.in_ok-met.ensures.counts) in
     let W : List ℕ → Type 0 = λ ks. Progress g.E.State.Lattice.below (g.E.State.Lattice.valid (g.E.Equations.bounds c.args.equations.now)) (g.E.State.Lattice.rank (g.E.Equations.bounds c.args.equations.now)) (g.E.Equations.edges c.args.equations.now) (g.E.Equations.weight c.args.equations.now) (g.E.Equations.points c.args.equations.now) c.args.start c.args.first c.settle.new.states ks [] ((c.rounds.steps - c.args.steps.now) + (c.settle.new.steps - c.rounds.steps)) in
     let done = subst W (c.in_ok-met.ensures.settled c.if-not-met.true) run in
     let weight = g.E.Equations.weight c.args.equations.now in
-    let paid = finish_ticks g.E.State.Lattice.below (g.E.State.Lattice.valid (g.E.Equations.bounds c.args.equations.now)) (g.E.State.Lattice.rank (g.E.Equations.bounds c.args.equations.now)) (g.E.Equations.edges c.args.equations.now) (g.E.Equations.weight c.args.equations.now) (g.E.Equations.points c.args.equations.now) c.args.start c.args.first (laws_of g c.args.equations.now) c.settle.new.states ((c.rounds.steps - c.args.steps.now) + (c.settle.new.steps - c.rounds.steps)) done most at_most in
+    let paid = finish_ticks g.E.State.Lattice.below (g.E.State.Lattice.valid (g.E.Equations.bounds c.args.equations.now)) (g.E.State.Lattice.rank (g.E.Equations.bounds c.args.equations.now)) (g.E.Equations.edges c.args.equations.now) (g.E.Equations.weight c.args.equations.now) (g.E.Equations.points c.args.equations.now) c.args.start c.args.first (laws_of g c.args.equations.now c.requires.rise) c.settle.new.states ((c.rounds.steps - c.args.steps.now) + (c.settle.new.steps - c.rounds.steps)) done most at_most in
     omega (arith, paid, c.rounds.invariant.counts, c.in_ok-met.ensures.counts)
 
 pub returns-clause-bound : goal.returns-clause-bound
 returns-clause-bound g c = λ most at_most.
-    let run = visits_step g.E.State.Lattice.below (g.E.State.Lattice.valid (g.E.Equations.bounds c.args.equations.now)) (g.E.State.Lattice.rank (g.E.Equations.bounds c.args.equations.now)) (g.E.Equations.edges c.args.equations.now) (g.E.Equations.weight c.args.equations.now) (g.E.Equations.points c.args.equations.now) c.args.start c.args.first (laws_of g c.args.equations.now) c.rounds.states c.rounds.waiting.keys (c.rounds.steps - c.args.steps.now) (c.settle.new.steps - c.rounds.steps) c.settle.new.states c.settle.new.waiting.keys c.rounds.invariant.run c.in_ok-met.ensures.visits in
-    let bound = within_bound g.E.State.Lattice.below (g.E.State.Lattice.valid (g.E.Equations.bounds c.args.equations.now)) (g.E.State.Lattice.rank (g.E.Equations.bounds c.args.equations.now)) (g.E.Equations.edges c.args.equations.now) (g.E.Equations.weight c.args.equations.now) (g.E.Equations.points c.args.equations.now) c.args.start c.args.first (laws_of g c.args.equations.now) c.settle.new.states c.settle.new.waiting.keys ((c.rounds.steps - c.args.steps.now) + (c.settle.new.steps - c.rounds.steps)) run most at_most in
+    let run = visits_step g.E.State.Lattice.below (g.E.State.Lattice.valid (g.E.Equations.bounds c.args.equations.now)) (g.E.State.Lattice.rank (g.E.Equations.bounds c.args.equations.now)) (g.E.Equations.edges c.args.equations.now) (g.E.Equations.weight c.args.equations.now) (g.E.Equations.points c.args.equations.now) c.args.start c.args.first (laws_of g c.args.equations.now c.requires.rise) c.rounds.states c.rounds.waiting.keys (c.rounds.steps - c.args.steps.now) (c.settle.new.steps - c.rounds.steps) c.settle.new.states c.settle.new.waiting.keys c.rounds.invariant.run c.in_ok-met.ensures.visits in
+    let bound = within_bound g.E.State.Lattice.below (g.E.State.Lattice.valid (g.E.Equations.bounds c.args.equations.now)) (g.E.State.Lattice.rank (g.E.Equations.bounds c.args.equations.now)) (g.E.Equations.edges c.args.equations.now) (g.E.Equations.weight c.args.equations.now) (g.E.Equations.points c.args.equations.now) c.args.start c.args.first (laws_of g c.args.equations.now c.requires.rise) c.settle.new.states c.settle.new.waiting.keys ((c.rounds.steps - c.args.steps.now) + (c.settle.new.steps - c.rounds.steps)) run most at_most in
     omega (arith, bound, c.rounds.invariant.counts, c.in_ok-met.ensures.counts)
 
 pub returns-in_err-met-clause-bound : goal.returns-in_err-met-clause-bound
 returns-in_err-met-clause-bound g c = λ most at_most.
-    let bound = failed_bound g.E.State.Lattice.below (g.E.State.Lattice.valid (g.E.Equations.bounds c.args.equations.now)) (g.E.State.Lattice.rank (g.E.Equations.bounds c.args.equations.now)) (g.E.Equations.edges c.args.equations.now) (g.E.Equations.weight c.args.equations.now) (g.E.Equations.points c.args.equations.now) c.args.start c.args.first (laws_of g c.args.equations.now) c.rounds.states c.rounds.waiting.keys (c.rounds.steps - c.args.steps.now) (c.settle.new.steps - c.rounds.steps) c.rounds.invariant.run c.in_err-met.ensures.failed most at_most in
+    let bound = failed_bound g.E.State.Lattice.below (g.E.State.Lattice.valid (g.E.Equations.bounds c.args.equations.now)) (g.E.State.Lattice.rank (g.E.Equations.bounds c.args.equations.now)) (g.E.Equations.edges c.args.equations.now) (g.E.Equations.weight c.args.equations.now) (g.E.Equations.points c.args.equations.now) c.args.start c.args.first (laws_of g c.args.equations.now c.requires.rise) c.rounds.states c.rounds.waiting.keys (c.rounds.steps - c.args.steps.now) (c.settle.new.steps - c.rounds.steps) c.rounds.invariant.run c.in_err-met.ensures.failed most at_most in
     omega (arith, bound, c.rounds.invariant.counts, c.in_err-met.ensures.counts)
