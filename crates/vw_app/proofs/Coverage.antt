@@ -9,7 +9,7 @@ use Rattle.vw_insn.specs.declared.instruction.Insn.{Insn}
 use Rattle.vw_layout.specs.declared.functions.Function.{Function}
 use Rattle.vw_layout.specs.declared.layout.Module.{Module}
 use Rattle.vw_layout.specs.Layout.{IsModule, IsWhole, declared_functions}
-use Rattle.vw_state.specs.declared.state.State.{State}
+use Rattle.vw_domain.specs.declared.parts.Parts.{Parts}
 use Rattle.vw_state.specs.declared.tables.FunctionTable.{FunctionTable}
 use Rattle.vw_state.specs.declared.tables.PointState.{PointState}
 use Rattle.vw_state.specs.Code.{StandsAlone, code_at}
@@ -38,31 +38,31 @@ record Gives (table : List PointState) (point : ℕ) : Type 0 where
   pub is : slice_get table place ≡ Some entry
   pub same : entry.at ≡ point
 
-abbrev given : Option PointState → Option State
+abbrev given : Option PointState → Option Parts
 given found = option_map (λ (p : PointState). p.state) found
 
-gives_step : (p : PointState) (rest : List PointState) (point : ℕ) (state : State) → (state_of rest point ≡ Some state → Gives rest point)
+gives_step : (p : PointState) (rest : List PointState) (point : ℕ) (state : Parts) → (state_of rest point ≡ Some state → Gives rest point)
     → (same : Bool) → (p.at == point) ≡ same → given (cond same (Some p) (find (λ (q : PointState). q.at == point) rest)) ≡ Some state → Gives (p ∷ rest) point
 gives_step p rest point state later true is e = record { place = 0; entry = p; is = refl; same = grind (arith, nat_tests, is) }
 gives_step p rest point state later false is e =
     let g = later e in record { place = suc g.place; entry = g.entry; is = g.is; same = g.same }
 
 -- a point with a state stands in the table
-gives : (table : List PointState) (point : ℕ) (state : State) → state_of table point ≡ Some state → Gives table point
+gives : (table : List PointState) (point : ℕ) (state : Parts) → state_of table point ≡ Some state → Gives table point
 gives [] point state e = absurd (none_some e)
 gives (p ∷ rest) point state e = gives_step p rest point state (gives rest point state) (p.at == point) refl e
 
 -- and each point that stands in the table has a state
-given_step : (p : PointState) (rest : List PointState) (point : ℕ) → ((state : State) × (state_of rest point ≡ Some state))
-    → (same : Bool) → (p.at == point) ≡ same → (state : State) × (given (cond same (Some p) (find (λ (q : PointState). q.at == point) rest)) ≡ Some state)
+given_step : (p : PointState) (rest : List PointState) (point : ℕ) → ((state : Parts) × (state_of rest point ≡ Some state))
+    → (same : Bool) → (p.at == point) ≡ same → (state : Parts) × (given (cond same (Some p) (find (λ (q : PointState). q.at == point) rest)) ≡ Some state)
 given_step p rest point later true is = (p.state, refl)
 given_step p rest point later false is = later
 
-here_step : (p : PointState) (rest : List PointState) (same : Bool) → same ≡ true → (state : State) × (given (cond same (Some p) (find (λ (q : PointState). q.at == p.at) rest)) ≡ Some state)
+here_step : (p : PointState) (rest : List PointState) (same : Bool) → same ≡ true → (state : Parts) × (given (cond same (Some p) (find (λ (q : PointState). q.at == p.at) rest)) ≡ Some state)
 here_step p rest true is = (p.state, refl)
 here_step p rest false is = absurd (let e : false ≡ true = is in cc)
 
-has_state : (table : List PointState) (place : ℕ) (entry : PointState) → slice_get table place ≡ Some entry → (state : State) × (state_of table entry.at ≡ Some state)
+has_state : (table : List PointState) (place : ℕ) (entry : PointState) → slice_get table place ≡ Some entry → (state : Parts) × (state_of table entry.at ≡ Some state)
 has_state [] place entry is = absurd (none_some is)
 has_state (p ∷ rest) zero entry is =
     let here = here_step p rest (p.at == p.at) (grind (arith, nat_tests)) in
@@ -155,13 +155,6 @@ declared_is m whole = rw (sym whole.functions, sym whole.tables, sym whole.image
 -- what stands at a point, where one instruction stands alone there
 pub covered_at : {code : List ℕ} {at len : ℕ} {i : Insn} → StandsAlone code at i len → IsCovered i → IsCoveredPoint code at
 covered_at alone covered other other_len begins = subst IsCovered (sym (alone.alone other other_len begins).0) covered
-
-abbrev pub blank : PointState
-blank = record { at = 0; state = record {} }
-
--- the entry of a table with a number
-abbrev pub point_at : List PointState → ℕ → PointState
-point_at table k = get_or table k blank
 
 -- a function that was read from the list is the one with its number
 pub read_is : (functions lent : List Function) (n : ℕ) (read f : Function) → lent ≡ functions → read ≡ get_or lent n read → slice_get functions n ≡ Some f → read ≡ f

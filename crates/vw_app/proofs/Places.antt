@@ -5,7 +5,7 @@ use Rattle.std.specs.List.{slice_get}
 use Rattle.std.proofs.lemmas.Bool.Decides.{nat_tests}
 use Rattle.vw_layout.specs.declared.functions.Function.{Function}
 use Rattle.vw_layout.specs.declared.layout.Module.{Module}
-use Rattle.vw_state.specs.declared.state.State.{State}
+use Rattle.vw_domain.specs.declared.parts.Parts.{Parts}
 use Rattle.vw_state.specs.declared.tables.PointState.{PointState}
 use Rattle.vw_state.specs.declared.tables.Place.{Place}
 use Rattle.vw_state.specs.Checks.{FailsGraph, lacks_code, leaves, StopsAt}
@@ -23,10 +23,10 @@ both_ways : {a b : ℕ} → a ≤ b → b ≤ a → a ≡ b
 both_ways {a} {b} one two = omega (arith, one, two)
 
 -- a table gives a point one state
-same_state : (table : List PointState) (at other : ℕ) (state known : State) → state_of table at ≡ Some state → at ≡ other → state_of table other ≡ Some known → known ≡ state
+same_state : (table : List PointState) (at other : ℕ) (state known : Parts) → state_of table at ≡ Some state → at ≡ other → state_of table other ≡ Some known → known ≡ state
 same_state table at other state known there same also = some_is (sym also ∙ (ap (λ (a : ℕ). state_of table a) (sym same) ∙ there))
 
-same_check : {f : Context} {at one two : ℕ} {state : State} → FailsGraph f at state one → FailsGraph f at state two → one ≡ two
+same_check : {f : Context} {at one two : ℕ} {state : Parts} → FailsGraph f at state one → FailsGraph f at state two → one ≡ two
 same_check (lacks_code lacks) (lacks_code also) = refl
 same_check (lacks_code lacks) (leaves some out) = absurd (some lacks)
 same_check (leaves some out) (lacks_code lacks) = absurd (some lacks)
@@ -38,7 +38,7 @@ module _ {f : Context} {table : List PointState} where
       let same : at ≡ at' = both_ways (first.lowest at' second.state second.there check' second.fails) (second.lowest at first.state first.there check first.fails) in
       let state : second.state ≡ first.state = same_state table at at' first.state second.state first.there same second.there in
       let here : FailsGraph f at second.state check' = subst (λ (a : ℕ). FailsGraph f a second.state check') (sym same) second.fails in
-      (same, same_check first.fails (subst (λ (s : State). FailsGraph f at s check') state here))
+      (same, same_check first.fails (subst (λ (s : Parts). FailsGraph f at s check') state here))
 
   first_same : {at check at' check' : ℕ} → FailsFirst f table at check → FailsFirst f table at' check' → (at ≡ at') × (check ≡ check')
   first_same {at} {check} {at'} {check'} first second =
@@ -48,8 +48,8 @@ module _ {f : Context} {table : List PointState} where
       let also : Fails f at' first.state check = subst (λ (a : ℕ). Fails f a first.state check) same first.fails.0 in (
         same,
         both_ways
-            (first.fails.1 check' (subst (λ (s : State). Fails f at s check') state here))
-            (second.fails.1 check (subst (λ (s : State). Fails f at' s check) (sym state) also)),
+            (first.fails.1 check' (subst (λ (s : Parts). Fails f at s check') state here))
+            (second.fails.1 check (subst (λ (s : Parts). Fails f at' s check) (sym state) also)),
       )
 
 module _ (one_least : OneLeast) where

@@ -9,7 +9,7 @@ use Rattle.vw_layout.specs.Layout.{IsModule, IsWhole}
 use Rattle.vw_state.specs.declared.tables.Place.{Place}
 use Rattle.vw_state.specs.declared.tables.Tables.{Tables}
 use Rattle.vw_state.specs.declared.tables.Verdict.TheVariants as verdict
-use Rattle.vw_state.specs.declared.state.State.{State}
+use Rattle.vw_domain.specs.declared.parts.Parts.{Parts}
 use Rattle.vw_state.specs.declared.tables.FunctionTable.{FunctionTable}
 use Rattle.vw_state.specs.declared.tables.PointState.{PointState}
 use Rattle.vw_state.specs.Code.{BeginsAt}
@@ -20,7 +20,9 @@ use Rattle.vw_checks.specs.Covered.{IsCovered}
 use Rattle.vw_checks.specs.Modules.{TablesOf, AreSafe, AreLeast}
 use Rattle.vw_checks.specs.Safe.{IsSafeTable}
 use Rattle.vw_machine.specs.Module.{declared_module, module_of}
-use Rattle.vw_sandbox.specs.Sandboxed.{IsSandboxed, IsSandboxedFile}
+use Rattle.vw_sandbox.specs.MapOf.{map_of}
+use Rattle.vw_sandbox.specs.Maps.{IsSandboxedBy}
+use Rattle.vw_sandbox.specs.Sandboxed.{IsSandboxedFile}
 use Rattle.vw_verdict.specs.Verdicts.{IsVerdict, IsPlaceOf}
 use Rattle.vw_app.specs.Answer.{Judged, safe, unsafe}
 use Rattle.vw_app.specs.Covered.{IsCoveredFunction, IsCoveredModule}
@@ -29,11 +31,11 @@ use Rattle.vw_app.proofs.Coverage.{declared_is}
 
 -- safe tables of a module make it sandboxed
 abbrev pub SandboxLaw : Type 0
-SandboxLaw = (file : List ℕ) (tables : Tables) → IsModule file → IsBytes file → AreSafe (declared_module file) tables → IsSandboxed (module_of file) tables.functions
+SandboxLaw = (file : List ℕ) (tables : Tables) → IsModule file → IsBytes file → AreSafe (declared_module file) tables → IsSandboxedBy (module_of file) (map_of (declared_module file) tables)
 
 -- this version covers what passes the checks
 abbrev pub CoverLaw : Type 0
-CoverLaw = (f : Context) (at len : ℕ) (state : State) (i : Insn) → Passes f at state → BeginsAt (code_of f) at i len → IsCovered i
+CoverLaw = (f : Context) (at len : ℕ) (state : Parts) (i : Insn) → Passes f at state → BeginsAt (code_of f) at i len → IsCovered i
 
 module _ (law : CoverLaw) (m : Module) where
   -- so it covers a function whose least table is safe

@@ -4,7 +4,7 @@ use Rattle.std.specs.List.{slice_get}
 use Rattle.vw_insn.specs.declared.instruction.Insn.{Insn}
 use Rattle.vw_layout.specs.declared.functions.Function.{Function}
 use Rattle.vw_layout.specs.declared.layout.Module.{Module}
-use Rattle.vw_state.specs.declared.state.State.{State}
+use Rattle.vw_domain.specs.declared.parts.Parts.{Parts}
 use Rattle.vw_state.specs.declared.tables.PointState.{PointState}
 use Rattle.vw_state.specs.Code.{BeginsAt}
 use Rattle.vw_state.specs.Context.{Context, code_of, context_of}
@@ -26,7 +26,7 @@ pub record HoldsAnother (code : List ℕ) (at : ℕ) : Type 0 where
 
 -- each instruction at a point of the table is one that this version covers
 abbrev pub IsCoveredTable : List ℕ → List PointState → Type 0
-IsCoveredTable code table = (at : ℕ) (state : State) → state_of table at ≡ Some state → IsCoveredPoint code at
+IsCoveredTable code table = (at : ℕ) (state : Parts) → state_of table at ≡ Some state → IsCoveredPoint code at
 
 -- the function has a least table, and it is such a one
 pub record IsCoveredFunction (f : Context) : Type 0 where
@@ -39,7 +39,7 @@ pub record MeetsAnother (f : Context) : Type 0 where
   pub table : List PointState
   pub least : IsLeast f table
   pub at : ℕ
-  pub state : State
+  pub state : Parts
   pub there : state_of table at ≡ Some state
   pub holds : HoldsAnother (code_of f) at
 

@@ -13,7 +13,7 @@ use vw_checks::is_covered;
 use vw_graph::{Rounds, rounds};
 use vw_layout::{Module, functions_ascend};
 use vw_solver::Steps;
-use vw_state::{FunctionTable, PointState, Site, instruction_at};
+use vw_state::{FunctionTable, PointState, code_of, instruction_at};
 
 /// Whether this version covers a module: whether each instruction at a point of the least table of each of its
 /// functions is one that it covers.
@@ -55,12 +55,8 @@ fn is_covered_function<L: Ledger>(
 {
     let table = last_table(rounds(alloc, loaded, number, steps)?);
     let function = &loaded.functions.as_slice()[number as usize];
-    let site = Site {
-        image: &loaded.image,
-        entry: function.entry,
-        size: function.size,
-    };
-    Ok(are_covered(site.code(), table.states.as_slice()))
+    let code = code_of(&loaded.image, function.entry, function.size);
+    Ok(are_covered(code, table.states.as_slice()))
 }
 
 // The table of the last round.

@@ -74,7 +74,7 @@ const VERDICTS: [(&str, u8, &str); 28] = [
     ("8b07c3", 0, "safe, functions 1\n"),
     ("908b", 1, "unsafe, f+0x1, C1 code\n"),
     ("8b47f8c3", 1, "unsafe, f+0x0, C4 address\n"),
-    ("8b0fc3", 8, "not built yet\n"),
+    ("8b0fc3", 0, "safe, functions 1\n"),
     // a branch to itself, endless jumps
     ("74fec3", 0, "safe, functions 1\n"),
     ("ebfe", 0, "safe, functions 1\n"),
@@ -92,21 +92,73 @@ const VERDICTS: [(&str, u8, &str); 28] = [
     ("7401908b4708ebf8", 0, "safe, functions 1\n"),
     // a jump out of the function goes before an access at a lower point
     ("8b47f8eb7f", 1, "unsafe, f+0x3, C2 jump\n"),
-    // PUSH that no jump comes to, and one behind a branch that fails a check
-    ("eb0155c3", 0, "safe, functions 1\n"),
-    ("757f55c3", 8, "not built yet\n"),
+    // a jump through a register that no jump comes to, and one behind a branch that fails a check
+    ("eb02ffe0c3", 0, "safe, functions 1\n"),
+    ("757fffe0", 8, "not built yet\n"),
     ("757f90c3", 1, "unsafe, f+0x0, C2 jump\n"),
+];
+
+// Functions that use their frame, compute addresses and call themselves.
+const FRAMES: [(&str, u8, &str); 28] = [
+    // rbp is pushed and popped, pushed alone, and rsp is not where it was
+    ("554889e55dc3", 0, "safe, functions 1\n"),
+    ("55c3", 1, "unsafe, f+0x1, C8 return\n"),
+    ("4883c408c3", 1, "unsafe, f+0x4, C8 return\n"),
+    // rbx is written, with and without the value that it had
+    ("5331db5bc3", 0, "safe, functions 1\n"),
+    ("31dbc3", 1, "unsafe, f+0x2, C8 return\n"),
+    // LEAVE finds the frame by rbp
+    ("554889e54883ec20c9c3", 0, "safe, functions 1\n"),
+    // reads of the frame: not written, written, behind the return address, and of it
+    ("8b4424fcc3", 1, "unsafe, f+0x0, C6 local\n"),
+    ("894424fc8b4424fcc3", 0, "safe, functions 1\n"),
+    ("8b442408c3", 0, "safe, functions 1\n"),
+    ("8b442404c3", 1, "unsafe, f+0x0, C6 local\n"),
+    ("8b842404100000c3", 0, "safe, functions 1\n"),
+    ("8b842405100000c3", 1, "unsafe, f+0x0, C6 local\n"),
+    // writes of the frame: behind its end, and below the guard
+    ("89442408c3", 1, "unsafe, f+0x0, C5 read only\n"),
+    ("89842400e0ffffc3", 0, "safe, functions 1\n"),
+    ("898424ffdfffffc3", 1, "unsafe, f+0x0, C3 depth\n"),
+    // written on one branch alone
+    ("7404894424fc8b4424fcc3", 1, "unsafe, f+0x6, C6 local\n"),
+    // an index of any number, of 32 bits, and a spilled one
+    ("8b0437c3", 1, "unsafe, f+0x0, C4 address\n"),
+    ("89f68b0437c3", 0, "safe, functions 1\n"),
+    ("897424fc8b5424fc8b0417c3", 0, "safe, functions 1\n"),
+    // the heap's base from a spilled word, and eight bytes below it
+    ("48897c24f8488b5424f88b02c3", 0, "safe, functions 1\n"),
+    ("488b57f88b02c3", 0, "safe, functions 1\n"),
+    ("488b57f88b82fd0f0000c3", 1, "unsafe, f+0x4, C4 address\n"),
+    // a comparison of rdi, which holds the heap's base on both branches
+    ("4881ff0010000072008b07c3", 0, "safe, functions 1\n"),
+    // calls: of the function itself, once more without the heap's base, with it kept, and of no function
+    ("e8fbffffffc3", 0, "safe, functions 1\n"),
+    ("e8fbffffffe8f6ffffffc3", 1, "unsafe, f+0x5, C7 call\n"),
+    ("57e8faffffff5fe8f4ffffffc3", 0, "safe, functions 1\n"),
+    ("e800000000c3", 1, "unsafe, f+0x0, C7 call\n"),
+    ("ffd0c3", 8, "not built yet\n"),
 ];
 
 #[test]
 fn verdicts(rt: HostRuntime) -> Result<(), Fail> {
+    judge_each(&rt, &VERDICTS)
+}
+
+#[test]
+fn verdicts_on_frames(rt: HostRuntime) -> Result<(), Fail> {
+    judge_each(&rt, &FRAMES)
+}
+
+// Judges functions by their code.
+fn judge_each(rt: &(impl Abort + AllocGlobal), cases: &[(&str, u8, &str)]) -> Result<(), Fail> {
     let alloc = rt.alloc();
-    for (hex, status, text) in VERDICTS.iter() {
+    for (hex, status, text) in cases.iter() {
         let code = from_hex(alloc, hex)?;
         assert!(rt; code.len() <= 100);
         let file = smallest_module(alloc, code.as_slice())?;
         let mut shelf = shelf(alloc, "-", file.as_slice(), &[])?;
-        expect(&rt, &["verify", "-"], &mut shelf, &[], (*status, text))?;
+        expect(rt, &["verify", "-"], &mut shelf, &[], (*status, text))?;
     }
     Ok(())
 }

@@ -1,10 +1,10 @@
-ghost use Rattle.std.specs.Prelude.{◌≡◌, ◌≢◌, ℕ, ◌<◌, IfOk};
+ghost use Rattle.std.specs.Prelude.{◌≡◌, ◌≢◌, ℕ, ◌<◌, Some, IfOk};
 ghost use Rattle.vw_rows.specs.Numbers.{IsBytes};
 ghost use Rattle.vw_layout.specs.declared.functions.Function.{Function};
 ghost use Rattle.vw_layout.specs.Layout.{IsWhole};
 ghost use Rattle.vw_checks.specs.Modules.{IsNumbered};
 ghost use Rattle.vw_sandbox.specs.Sandboxed.{IsSandboxedFile};
-ghost use Rattle.vw_verdict.specs.Verdicts.{IsVerdict, IsPlaceOf};
+ghost use Rattle.vw_verdict.specs.Verdicts.{IsJudgement, IsPlaceOf};
 ghost use Rattle.vw_app.specs.Answer.{Judged};
 ghost use Rattle.vw_app.specs.Lines.{unsafe_line};
 
@@ -17,10 +17,10 @@ use std::sync::ledger::{Blank, Ledger};
 use vw_bits::{OutOfMemory, Text};
 use vw_checks::passing_code_is_covered;
 use vw_layout::{Module, functions_ascend};
-use vw_sandbox::safe_code_is_sandboxed;
+use vw_sandbox::safe_tables_are_sandboxed;
 use vw_solver::Steps;
-use vw_state::{Place, Verdict};
-use vw_verdict::judge;
+use vw_state::Place;
+use vw_verdict::find_place;
 
 const NOT_COVERED: &[u8] = b"not built yet\n";
 
@@ -51,15 +51,15 @@ fn verify_from<L: Ledger>(
     ensures no_want { IfOk result (λ reply. reply.0.0 ≢ 6) }
 {
     let mut steps: Steps<L> = Steps::from_blank(blank);
-    safe_code_is_sandboxed();
+    safe_tables_are_sandboxed();
     passing_code_is_covered();
     as_bytes(loaded.image.bytes());
-    match judge(alloc, loaded, &mut steps)? {
-        Verdict::Safe(_) => {
+    match find_place(alloc, loaded, &mut steps)? {
+        None => {
             let text = safe_text(alloc, loaded.functions.as_slice().len())?;
             Ok((Status::SAFE, text))
         }
-        Verdict::Unsafe(place) => refuse(alloc, loaded, place, &mut steps),
+        Some(place) => refuse(alloc, loaded, place, &mut steps),
     }
 }
 
@@ -72,7 +72,7 @@ fn refuse<L: Ledger>(
     steps: &mut Steps<L>,
 ) -> Result<(Status, Text), OutOfMemory>
     requires whole { IsWhole loaded.now }
-    requires verdict { IsVerdict loaded.now (Verdict.Unsafe place) }
+    requires verdict { IsJudgement loaded.now (Some place) }
     ensures judged { IfOk result (λ reply. Judged loaded.now reply.0.0 reply.1) }
     ensures not_safe { IfOk result (λ reply. reply.0.0 ≢ 0) }
     ensures no_fault { IfOk result (λ reply. reply.0.0 ≢ 5) }

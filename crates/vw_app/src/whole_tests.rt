@@ -119,7 +119,7 @@ const DISPLACEMENT: usize = 498;
 const THIRD: usize = 512;
 
 // A whole module that was written, what it declares, and verdicts where some of its bytes differ: a read below
-// the heap, PUSH, and both, which is first in the module.
+// the heap, a byte that begins no instruction there, and both, of which the first function is named.
 #[test]
 fn written_modules(rt: HostRuntime) -> Result<(), Fail> {
     let alloc = rt.alloc();
@@ -129,8 +129,8 @@ fn written_modules(rt: HostRuntime) -> Result<(), Fail> {
     for (displacement, third, status, text) in [
         (8, 0x0F, 0, "safe, functions 3\n"),
         (0xF8, 0x0F, 1, "unsafe, gg+0x0, C4 address\n"),
-        (8, 0x55, 8, "not built yet\n"),
-        (0xF8, 0x55, 8, "not built yet\n"),
+        (8, 0x06, 1, "unsafe, h+0x0, C1 code\n"),
+        (0xF8, 0x06, 1, "unsafe, gg+0x0, C4 address\n"),
     ] {
         let mut bytes = file.as_slice().to_vec(alloc)?;
         if let Some(byte) = bytes.get_mut(DISPLACEMENT) {

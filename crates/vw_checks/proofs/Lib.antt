@@ -1,6 +1,9 @@
 mod LowestLemmas
+mod Decisions
+mod Conditions
 mod Rising
 mod Passing
-mod Points
+mod Readings
 mod Rest
-mod Flows
+mod Points
+mod Built

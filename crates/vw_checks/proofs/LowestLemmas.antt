@@ -34,17 +34,25 @@ lower_none (Some a) = refl
 pub not_true : {A : Type 0} {b : Bool} → b ≡ false → (A → b ≡ true) → A → ⊥
 not_true is_false gives a = let both : true ≡ false = sym (gives a) ∙ is_false in absurd cc
 
--- one check, where a test tells whether it fails
-pub one_where : (number : ℕ) (b : Bool) (P : Type 0) → (IsTrue b ↔ P) → IsLowestOf (λ (n : ℕ). (n ≡ number) × P) (if b then Some number else None)
-one_where number true P tells = ((refl, tells.0 refl), λ n h. omega (arith, h.0))
-one_where number false P tells = λ n h. not_true refl tells.1 h.1
+-- one check that fails where something does not hold, of which a test tells
+pub one_unless : (number : ℕ) (P : Type 0) (b : Bool) (o : Option ℕ) → (IsTrue b ↔ P) → o ≡ (if b then None else Some number) → IsLowestOf (λ (n : ℕ). (n ≡ number) × (P → ⊥)) o
+one_unless number P b o tells e = subst (λ (o : Option ℕ). IsLowestOf (λ (n : ℕ). (n ≡ number) × (P → ⊥)) o) (sym e) (by b tells)
+  where
+    by : (b : Bool) → (IsTrue b ↔ P) → IsLowestOf (λ (n : ℕ). (n ≡ number) × (P → ⊥)) (if b then None else Some number)
+    by true tells = λ n h. h.1 (tells.0 refl)
+    by false tells = ((refl, λ p. not_true refl tells.1 p), λ n h. omega (arith, h.0))
 
--- one check that fails where something does not hold
-pub where_followed : (number : ℕ) (P : Type 0) → P → IsLowestOf (λ (n : ℕ). (n ≡ number) × (P → ⊥)) None
-where_followed number P p = λ n h. h.1 p
+-- one check that fails where a test tells so
+pub one_where : (number : ℕ) (P : Type 0) (b : Bool) (o : Option ℕ) → (IsTrue b ↔ P) → o ≡ (if b then Some number else None) → IsLowestOf (λ (n : ℕ). (n ≡ number) × P) o
+one_where number P b o tells e = subst (λ (o : Option ℕ). IsLowestOf (λ (n : ℕ). (n ≡ number) × P) o) (sym e) (by b tells)
+  where
+    by : (b : Bool) → (IsTrue b ↔ P) → IsLowestOf (λ (n : ℕ). (n ≡ number) × P) (if b then Some number else None)
+    by true tells = ((refl, tells.0 refl), λ n h. omega (arith, h.0))
+    by false tells = λ n h. not_true refl tells.1 h.1
 
-pub where_unfollowed : (number : ℕ) (P : Type 0) (b : Bool) → b ≡ false → (P → b ≡ true) → IsLowestOf (λ (n : ℕ). (n ≡ number) × (P → ⊥)) (Some number)
-where_unfollowed number P b is_false tells = ((refl, λ p. not_true is_false tells p), λ n h. omega (arith, h.0))
+-- of what holds by one of two properties, of which the lowest numbers are at hand
+pub lower_as : (A B : ℕ → Type 0) (a b o : Option ℕ) → o ≡ lower a b → IsLowestOf A a → IsLowestOf B b → IsLowestOf (λ (n : ℕ). A n ⊎ B n) o
+lower_as A B a b o e la lb = subst (λ (o : Option ℕ). IsLowestOf (λ (n : ℕ). A n ⊎ B n) o) (sym e) (lower_of A B a b la lb)
 
 -- the same of properties that hold of the same numbers
 pub lowest_as : (A B : ℕ → Type 0) (o : Option ℕ) → ((n : ℕ) → A n → B n) → ((n : ℕ) → B n → A n) → IsLowestOf A o → IsLowestOf B o

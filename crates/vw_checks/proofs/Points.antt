@@ -1,9 +1,10 @@
 -- What stands at a point decides what fails there.
-use Rattle.std.proofs.Common.{◌≡◌, ◌∙◌, ℕ, ◌+◌, ◌≤◌, List, Option, Some, sym, ap, subst, arith}
+use Rattle.std.proofs.Common.{◌≡◌, ◌∙◌, ℕ, ◌+◌, ◌≤◌, Option, Some, sym, ap, subst, arith}
+use Rattle.std.specs.Prelude.{IfOk, Result, Ok, Err}
 use Rattle.vw_image.specs.Image.{Contents}
 use Rattle.vw_insn.specs.declared.instruction.Insn.{Insn}
 use Rattle.vw_state.specs.declared.site.Site.{Site}
-use Rattle.vw_state.specs.declared.state.State.{State}
+use Rattle.vw_domain.specs.declared.parts.Parts.{Parts}
 use Rattle.vw_state.specs.Code.{code_at, NothingAt, StandsAlone}
 use Rattle.vw_state.specs.Context.{Context, code_of, IsSite}
 use Rattle.vw_checks.specs.Checks.{InsnFails, Fails, lacks_code, at_insn, IsLowestOf, LowestFailing}
@@ -15,7 +16,7 @@ site_code f site is =
     ap (λ (image : Contents). code_at image site.entry site.size) (sym is.image)
     ∙ (ap (λ (entry : ℕ). code_at f.image entry site.size) (sym is.entry) ∙ ap (λ (size : ℕ). code_at f.image f.entry size) (sym is.size))
 
-module _ (f : Context) (at : ℕ) (state : State) where
+module _ (f : Context) (at : ℕ) (state : Parts) where
   -- nothing decodes at the point
   pub none_stands : NothingAt (code_of f) at → LowestFailing f at state (Some 1)
   none_stands lacks = (lacks_code lacks, λ number fails. least number fails)
@@ -37,3 +38,8 @@ module _ (f : Context) (at : ℕ) (state : State) where
 
     pub as_point : (o : Option ℕ) → IsLowestOf (InsnFails f (at + len) state i) o → LowestFailing f at state o
     as_point o lowest = lowest_as (InsnFails f (at + len) state i) (Fails f at state) o to_point from_point lowest
+
+-- what holds of an answer gives more, where it gives more of each
+pub ok_as : {T E : Type 0} (P Q : T → Type 0) → ((x : T) → P x → Q x) → (r : Result T E) → IfOk r P → IfOk r Q
+ok_as P Q gives (Ok x) h = gives x h
+ok_as P Q gives (Err e) h = h

@@ -1,70 +1,169 @@
--- A check that fails at a state fails at each greater one.
-use Rattle.std.proofs.Common.{◌≡◌, ◌⊎◌, inl, inr, ℕ, ◌+◌, List, [], ◌∷◌, ◌++◌, refl}
+-- Where no check fails at a state, none fails at a lower one.
+use Rattle.std.proofs.Common.{◌≡◌, ◌⊎◌, inl, inr, ℕ, ◌+◌, ◌≤◌, List, [], ◌∷◌, ◌++◌, Bool, true, false, Some, None, refl, sym, subst, arith}
+use Rattle.std.specs.List.{AllByRecursion}
+use Rattle.std.specs.Prelude.{pos, ◌-ℤ◌, Option}
+use Rattle.vw_rows.specs.Numbers.{IsBytes}
 use Rattle.vw_insn.specs.declared.instruction.Insn.{Insn}
+use Rattle.vw_names.specs.declared.spot.Spot.TheVariants.{Reg as RegisterOf}
+use Rattle.vw_stmt.specs.Lifted.{IsLifted}
 use Rattle.vw_stmt.specs.declared.statement.Flow.{Flow}
 use Rattle.vw_stmt.specs.declared.statement.Flow.TheVariants as flow
 use Rattle.vw_stmt.specs.declared.statement.Stmt.{Stmt}
 use Rattle.vw_stmt.specs.declared.statement.Stmt.TheVariants as stmt
 use Rattle.vw_lift.specs.Lifted.{steps, flow_of, lifted}
-use Rattle.vw_state.specs.declared.state.State.{State}
-use Rattle.vw_state.specs.State.{IsBelow}
-use Rattle.vw_state.specs.Context.{Context}
-use Rattle.vw_state.specs.Steps.{after_stmt, after_stmts}
-use Rattle.vw_state.specs.Monotone.{stmt_rises}
-use Rattle.vw_state.specs.Checks.{Leaves, FailsGraph}
+use Rattle.vw_layout.specs.declared.calls.CallTarget.{CallTarget}
+use Rattle.vw_layout.specs.declared.calls.CallTarget.TheVariants as target
+use Rattle.vw_stack.specs.declared.offset.Offset.{Offset}
+use Rattle.vw_stack.specs.declared.offset.Offset.TheVariants as offset
+use Rattle.vw_domain.specs.declared.parts.Parts.{Parts}
+use Rattle.vw_domain.specs.Abstract.{Abstract, abstract_of, IsBelow}
+use Rattle.vw_domain.specs.Addresses.{Address, Frame, address_of}
+use Rattle.vw_domain.specs.Checks.{HasHeapBase}
+use Rattle.vw_domain.specs.Sites.{Site}
+use Rattle.vw_domain.specs.EquationLaws.{StatementsRise, StatementsKeepForms, ChecksRise, TransferChecksRise, ValueChecksRise}
+use Rattle.vw_domain.specs.FormLaws.{StatesHaveForms, HasDisplacement}
+use Rattle.vw_domain.specs.FormRanges.{IsForm}
+use Rattle.vw_domain.specs.Forms.{OrderIsThatOfForms}
+use Rattle.vw_domain.specs.Operands.{index_of}
+use Rattle.vw_domain.specs.State.{IsValidState, state_below}
+use Rattle.vw_domain.specs.Statements.{apply, applies}
+use Rattle.vw_state.specs.Code.{BeginsAt}
+use Rattle.vw_state.specs.Context.{Context, code_of, site_at}
+use Rattle.vw_state.specs.Laws.{HasSites}
+use Rattle.vw_state.specs.Checks.{FailsGraph, Leaves}
 use Rattle.vw_state.specs.Checks.{lacks_code as no_code, leaves as goes_out}
-use Rattle.vw_checks.specs.Checks.{FlowFails, StmtFails, StmtsFail, InsnFails, Fails, lacks_code, at_insn, Passes}
+use Rattle.vw_checks.specs.Accesses.{ReadFails, WriteFails, TouchFails, PushFailsAt}
+use Rattle.vw_checks.specs.Checks.{called_target, MayEnter, TransferFails, StmtFails, StmtsFail, FlowFails, FlowPasses, InsnFails, Fails, lacks_code, at_insn, Passes}
+use Rattle.vw_checks.proofs.Conditions.{None as NoneFails, flow_passes, flow_none, stmt_passes, stmt_none}
 
-leaves_rise : (f : Context) (next : ℕ) (low high : State) → IsBelow low high → (fl : Flow) → Leaves f next low fl → Leaves f next high fl
-leaves_rise f next low high b flow.Next h = h
-leaves_rise f next low high b (flow.Jump rel) h = h
-leaves_rise f next low high b (flow.Branch cond rel) h = h
-leaves_rise f next low high b (flow.JumpReg src) h = h
-leaves_rise f next low high b (flow.Call rel) h = h
-leaves_rise f next low high b (flow.CallReg src) h = h
-leaves_rise f next low high b flow.Ret h = h
-leaves_rise f next low high b flow.Stop h = h
+enter_rises : (s t : Abstract) (entered : Option CallTarget) → (HasHeapBase t → HasHeapBase s) → MayEnter entered t → MayEnter entered s
+enter_rises s t None base may = may
+enter_rises s t (Some target.Probe) base may = tt
+enter_rises s t (Some (target.Function number)) base may = base may
+enter_rises s t (Some (target.Stub stub)) base may = base may
 
-flow_rises : (f : Context) (next : ℕ) (low high : State) → IsBelow low high → (fl : Flow) (n : ℕ) → FlowFails f next low fl n → FlowFails f next high fl n
-flow_rises f next low high b fl n (inl h) = inl (h.0, leaves_rise f next low high b fl h.1)
-flow_rises f next low high b fl n (inr h) = inr h
+-- the laws of the equations
+module _ (rise : StatementsRise) (forms : StatementsKeepForms) (checks : ChecksRise) (transfers : TransferChecksRise) (values : ValueChecksRise) (f : Context) (sites : HasSites f) (next : ℕ) where
+  flow_rises : (s t : Abstract) → IsBelow s t → (fl : Flow) → FlowPasses f next t fl → FlowPasses f next s fl
+  flow_rises s t below flow.Next passes = tt
+  flow_rises s t below (flow.Jump rel) passes = passes
+  flow_rises s t below (flow.Branch cond rel) passes = passes
+  flow_rises s t below (flow.JumpReg src) passes = passes
+  flow_rises s t below (flow.Call rel) passes =
+      let law = transfers (site_at f next) s t below in
+      (law.1 passes.0, enter_rises s t (called_target f next rel) law.2 passes.1)
+  flow_rises s t below (flow.CallReg src) passes =
+      absurd passes.1
+  flow_rises s t below flow.Ret passes = (transfers (site_at f next) s t below).0 passes
+  flow_rises s t below flow.Stop passes = tt
 
-stmt_fails : (f : Context) (next : ℕ) (low high : State) → IsBelow low high → (s : Stmt) (n : ℕ) → StmtFails f next low s n → StmtFails f next high s n
-stmt_fails f next low high b (stmt.Set dst c) n h = h
-stmt_fails f next low high b (stmt.Copy dst src) n h = h
-stmt_fails f next low high b (stmt.Narrow dst src from to signed) n h = h
-stmt_fails f next low high b (stmt.Sum dst x y minus) n h = h
-stmt_fails f next low high b (stmt.Lea dst mem) n h = h
-stmt_fails f next low high b (stmt.And dst w x y) n h = h
-stmt_fails f next low high b (stmt.Shl dst) n h = h
-stmt_fails f next low high b (stmt.Open dst w) n h = h
-stmt_fails f next low high b (stmt.Choose dst w x y) n h = h
-stmt_fails f next low high b (stmt.Load dst size to signed mem) n h = h
-stmt_fails f next low high b (stmt.Store mem size src) n h = h
-stmt_fails f next low high b (stmt.Touch mem size write) n h = h
-stmt_fails f next low high b (stmt.Flags fact) n h = h
-stmt_fails f next low high b (stmt.Flow fl) n h = flow_rises f next low high b fl n h
+  stmt_rises : (s t : Abstract) → IsForm f.bounds s → IsForm f.bounds t → IsBelow s t → (x : Stmt) → NoneFails (StmtFails f next t x) → NoneFails (StmtFails f next s x)
+  stmt_rises s t low high below (stmt.Flow fl) none = flow_none f next s fl (flow_rises s t below fl (flow_passes f next t fl none))
+  stmt_rises s t low high below x none = stmt_none f next s x tt (checks (site_at f next) s t x (sites next) low high below (stmt_passes f next t x none))
 
-stmts_fail : (f : Context) (next : ℕ) (stmts : List Stmt) (low high : State) → IsBelow low high → (n : ℕ) → StmtsFail f next low stmts n → StmtsFail f next high stmts n
-stmts_fail f next [] low high b n h = h
-stmts_fail f next (s ∷ stmts) low high b n (inl h) = inl (stmt_fails f next low high b s n h)
-stmts_fail f next (s ∷ stmts) low high b n (inr h) = inr (stmts_fail f next stmts (after_stmt f next s low) (after_stmt f next s high) (stmt_rises f next s low high b) n h)
+  stmts_rise : (s t : Abstract) → IsForm f.bounds s → IsForm f.bounds t → IsBelow s t → (stmts : List Stmt) → AllByRecursion IsLifted stmts → NoneFails (StmtsFail f next t stmts) → NoneFails (StmtsFail f next s stmts)
+  stmts_rise s t low high below [] lifted none number h = h
+  stmts_rise s t low high below (x ∷ stmts) lifted none number (inl h) = stmt_rises s t low high below x (λ k g. none k (inl g)) number h
+  stmts_rise s t low high below (x ∷ stmts) lifted none number (inr h) =
+      stmts_rise (apply (site_at f next) x s) (apply (site_at f next) x t) (forms (site_at f next) s x (sites next) low lifted.0) (forms (site_at f next) t x (sites next) high lifted.0)
+      (rise (site_at f next) s t x (sites next) low high lifted.0 below) stmts lifted.1 (λ k g. none k (inr g)) number h
 
-insn_fails : (f : Context) (next : ℕ) (i : Insn) (low high : State) → IsBelow low high → (n : ℕ) → InsnFails f next low i n → InsnFails f next high i n
-insn_fails f next i low high b n (inl h) = inl (stmts_fail f next (lifted i) low high b n h)
-insn_fails f next i low high b n (inr h) = inr h
+with_flow : (stmts : List Stmt) (fl : Flow) → AllByRecursion IsLifted stmts → AllByRecursion IsLifted (stmts ++ stmt.Flow fl ∷ [])
+with_flow [] fl all = (tt, tt)
+with_flow (x ∷ stmts) fl all = (all.0, with_flow stmts fl all.1)
 
-pub fails_rise : (f : Context) (at : ℕ) (low high : State) → IsBelow low high → (n : ℕ) → Fails f at low n → Fails f at high n
-fails_rise f at low high b n (lacks_code lacks) = lacks_code lacks
-fails_rise f at low high b n (at_insn i len number begins h) = at_insn i len number begins (insn_fails f (at + len) i low high b number h)
+-- the statements of spelled instructions are lifted ones
+abbrev pub StatementsAreLifted : Type 0
+StatementsAreLifted = (code : List ℕ) (at : ℕ) (i : Insn) (len : ℕ) → IsBytes code → BeginsAt code at i len → AllByRecursion HasDisplacement (steps i) × AllByRecursion IsLifted (steps i)
+
+module _ (rise : StatementsRise) (forms : StatementsKeepForms) (checks : ChecksRise) (transfers : TransferChecksRise) (values : ValueChecksRise) (have : StatesHaveForms) (order : OrderIsThatOfForms) (spelled : StatementsAreLifted) where
+  pub passes_rise : (f : Context) (at : ℕ) (low high : Parts) → IsBytes (code_of f) → HasSites f → IsValidState f.bounds low → IsValidState f.bounds high → state_below low high → Passes f at high → Passes f at low
+  passes_rise f at low high bytes sites is_low is_high below passes _ (lacks_code lacks) = passes 1 (lacks_code lacks)
+  passes_rise f at low high bytes sites is_low is_high below passes _ (at_insn i len number begins h) =
+      stmts_rise rise forms checks transfers values f sites (at + len) (abstract_of low) (abstract_of high) (have f.bounds low is_low).form (have f.bounds high is_high).form
+      ((order low high is_low.state is_high.state).0 below) (lifted i) (with_flow (steps i) (flow_of i) (spelled (code_of f) at i len bytes begins).1)
+      (λ k g. passes k (at_insn i len k begins g)) number h
+
+-- ---- checks 1 and 2 by themselves
+
+write_numbers : (st : Abstract) (a : Address) (n number : ℕ) → WriteFails st a n number → 3 ≤ number
+write_numbers st a n number (inl h) = omega (arith, h.0)
+write_numbers st a n number (inr (inl h)) = omega (arith, h.0)
+write_numbers st a n number (inr (inr h)) = omega (arith, h.0)
+
+read_numbers : (site : Site) (st : Abstract) (a : Address) (n number : ℕ) → ReadFails site st a n number → 3 ≤ number
+read_numbers site st a n number (inl h) = omega (arith, h.0)
+read_numbers site st a n number (inr h) = omega (arith, h.0)
+
+touch_numbers : (site : Site) (st : Abstract) (write : Bool) (a : Address) (n number : ℕ) → TouchFails site st write a n number → 3 ≤ number
+touch_numbers site st true a n number h = write_numbers st a n number h
+touch_numbers site st false a n number h = read_numbers site st a n number h
+
+push_numbers : (st : Abstract) (o : Offset) (number : ℕ) → PushFailsAt st o number → 3 ≤ number
+push_numbers st offset.Unknown number h = omega (arith, h)
+push_numbers st (offset.Known c) number h = write_numbers st (Frame (c -ℤ pos 8)) 8 number h
+
+module _ (f : Context) (next : ℕ) where
+  transfer_numbers : (st : Abstract) (fl : Flow) (number : ℕ) → TransferFails f next st fl number → 3 ≤ number
+  transfer_numbers st flow.Next number h = absurd h
+  transfer_numbers st (flow.Jump rel) number h = absurd h
+  transfer_numbers st (flow.Branch cond rel) number h = absurd h
+  transfer_numbers st (flow.JumpReg src) number h = absurd h
+  transfer_numbers st (flow.Call rel) number (inl h) = push_numbers st (st.offsets 4) number h
+  transfer_numbers st (flow.Call rel) number (inr h) = omega (arith, h.0)
+  transfer_numbers st (flow.CallReg src) number (inl h) = push_numbers st (st.offsets 4) number h
+  transfer_numbers st (flow.CallReg src) number (inr h) = omega (arith, h.0)
+  transfer_numbers st flow.Ret number h = omega (arith, h.0)
+  transfer_numbers st flow.Stop number h = absurd h
+
+  same_leaves : (s t : Abstract) (fl : Flow) → Leaves f next s fl → Leaves f next t fl
+  same_leaves s t flow.Next h = h
+  same_leaves s t (flow.Jump rel) h = h
+  same_leaves s t (flow.Branch cond rel) h = h
+  same_leaves s t (flow.JumpReg src) h = h
+  same_leaves s t (flow.Call rel) h = h
+  same_leaves s t (flow.CallReg src) h = h
+  same_leaves s t flow.Ret h = h
+  same_leaves s t flow.Stop h = h
+
+  -- a check below 3 that fails at a statement is check 2, whatever the state
+  abbrev IsFirst : ℕ → (ℕ → Type 0) → Type 0
+  IsFirst number Fails = (3 ≤ number) ⊎ ((number ≡ 2) × Fails 2)
+
+  first_flow : (s t : Abstract) (fl : Flow) (number : ℕ) → FlowFails f next s fl number → IsFirst number (FlowFails f next t fl)
+  first_flow s t fl number (inl h) = inr (h.0, inl (refl, same_leaves s t fl h.1))
+  first_flow s t fl number (inr h) = inl (transfer_numbers s fl number h)
+
+  first_stmt : (s t : Abstract) (x : Stmt) (number : ℕ) → StmtFails f next s x number → IsFirst number (StmtFails f next t x)
+  first_stmt s t (stmt.Load dst size to signed mem) number h = inl (read_numbers (site_at f next) s (address_of (site_at f next) s mem) size number h)
+  first_stmt s t (stmt.Store mem size src) number h = inl (write_numbers s (address_of (site_at f next) s mem) size number h)
+  first_stmt s t (stmt.Touch mem size write) number h = inl (touch_numbers (site_at f next) s write (address_of (site_at f next) s mem) size number h)
+  first_stmt s t (stmt.Flow fl) number h = first_flow s t fl number h
+  first_stmt s t _ number h = absurd h
+
+  first_stmts : (s t : Abstract) (stmts : List Stmt) (number : ℕ) → StmtsFail f next s stmts number → IsFirst number (StmtsFail f next t stmts)
+  first_stmts s t [] number h = absurd h
+  first_stmts s t (x ∷ stmts) number (inl h) = elim (first_stmt s t x number h) [ inl more ↦ inl more | inr two ↦ inr (two.0, inl two.1) ]
+  first_stmts s t (x ∷ stmts) number (inr h) =
+      elim (first_stmts (apply (site_at f next) x s) (apply (site_at f next) x t) stmts number h) [ inl more ↦ inl more | inr two ↦ inr (two.0, inr two.1) ]
+
+first_insn : (f : Context) (at : ℕ) (low high : Parts) (i : Insn) (len number : ℕ) → BeginsAt (code_of f) at i len → number ≤ 2 → (3 ≤ number) ⊎ ((number ≡ 2) × InsnFails f (at + len) high i 2) → Fails f at high number
+first_insn f at low high i len number begins small (inl more) = absurd (omega (arith, small, more))
+first_insn f at low high i len number begins small (inr two) = subst (λ (n : ℕ). Fails f at high n) (sym two.0) (at_insn i len 2 begins two.1)
+
+-- checks 1 and 2 do not depend on the state
+pub first_rise : (f : Context) (at : ℕ) (low high : Parts) (number : ℕ) → number ≤ 2 → Fails f at low number → Fails f at high number
+first_rise f at low high _ small (lacks_code lacks) = lacks_code lacks
+first_rise f at low high _ small (at_insn i len number begins h) =
+    first_insn f at low high i len number begins small (first_stmts f (at + len) (abstract_of low) (abstract_of high) (lifted i) number h)
 
 -- what fails at the last flow of some statements
-pub flow_last : (f : Context) (next : ℕ) (stmts : List Stmt) (fl : Flow) (state : State) (n : ℕ) → FlowFails f next (after_stmts f next stmts state) fl n → StmtsFail f next state (stmts ++ stmt.Flow fl ∷ []) n
-flow_last f next [] fl state n h = inl h
-flow_last f next (s ∷ stmts) fl state n h = inr (flow_last f next stmts fl (after_stmt f next s state) n h)
+flow_last : (f : Context) (next : ℕ) (stmts : List Stmt) (fl : Flow) (st : Abstract) (n : ℕ) → FlowFails f next (applies (site_at f next) stmts st) fl n → StmtsFail f next st (stmts ++ stmt.Flow fl ∷ []) n
+flow_last f next [] fl st n h = inl h
+flow_last f next (x ∷ stmts) fl st n h = inr (flow_last f next stmts fl (apply (site_at f next) x st) n h)
 
 -- the checks that stop the rounds are among all
-pub graph_fails : (f : Context) (at n : ℕ) (state : State) → FailsGraph f at state n → Fails f at state n
+pub graph_fails : (f : Context) (at n : ℕ) (state : Parts) → FailsGraph f at state n → Fails f at state n
 graph_fails f at n state (no_code lacks) = lacks_code lacks
 graph_fails f at n state (goes_out some out) =
-    at_insn out.instruction out.len 2 out.stands (inl (flow_last f (at + out.len) (steps out.instruction) (flow_of out.instruction) state 2 (inl (refl, out.leaves))))
+    at_insn out.instruction out.len 2 out.stands (flow_last f (at + out.len) (steps out.instruction) (flow_of out.instruction) (abstract_of state) 2 (inl (refl, out.leaves)))

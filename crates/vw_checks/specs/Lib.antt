@@ -1,4 +1,4 @@
-pub mod Sites
+pub mod Functions
 pub mod Accesses
 pub mod Covered
 pub mod Checks

@@ -1,6 +1,6 @@
 -- Safe tables of a function.
 use Rattle.std.specs.Prelude.{◌≡◌, ℕ, List, Some}
-use Rattle.vw_state.specs.declared.state.State.{State}
+use Rattle.vw_domain.specs.declared.parts.Parts.{Parts}
 use Rattle.vw_state.specs.declared.tables.PointState.{PointState}
 use Rattle.vw_state.specs.Context.{Context}
 use Rattle.vw_state.specs.Tables.{state_of}
@@ -9,7 +9,7 @@ use Rattle.vw_checks.specs.Checks.{Passes}
 
 -- no check fails at a point of the table
 abbrev pub NoneFails : Context → List PointState → Type 0
-NoneFails f table = (at : ℕ) (state : State) → state_of table at ≡ Some state → Passes f at state
+NoneFails f table = (at : ℕ) (state : Parts) → state_of table at ≡ Some state → Passes f at state
 
 -- a solution at whose points no check fails
 pub record IsSafeTable (f : Context) (table : List PointState) : Type 0 where

@@ -1,28 +1,38 @@
-ghost use Rattle.std.specs.Prelude.{◌≡◌, Contains, IfOk};
+ghost use Rattle.std.specs.Prelude.{◌≡◌, ◌≤◌, length, Contains, IfOk};
+ghost use Rattle.std.specs.List.{AllByRecursion};
 ghost use Rattle.vw_insn.specs.Listed.{IsListed};
+ghost use Rattle.vw_stmt.specs.Lifted.{IsLifted};
 ghost use Rattle.vw_layout.specs.declared.functions.Function.{Function};
+ghost use Rattle.vw_layout.specs.Layout.{IsWhole};
+ghost use Rattle.vw_domain.specs.Abstract.{abstract_of};
+ghost use Rattle.vw_domain.specs.State.{Fits};
 ghost use Rattle.vw_state.specs.Code.{code_at};
 ghost use Rattle.vw_state.specs.Context.{Context, context_of, IsSite};
-ghost use Rattle.vw_checks.specs.Sites.{IsSiteOf};
 ghost use Rattle.vw_checks.specs.Checks.{IsLowestOf, StmtsFail, InsnFails, LowestFailing};
+ghost use Rattle.vw_checks.specs.Functions.{IsFunctionOf};
 
-use crate::covered::is_followed;
 use crate::lowest::lower;
 use crate::statements::failing_stmt;
 use std::alloc::Global;
 use vw_bits::OutOfMemory;
+use vw_domain::State;
 use vw_insn::Insn;
+use vw_lattice::Lattice;
 use vw_layout::Module;
 use vw_lift::lift;
-use vw_state::{Site, State, code_is_short, instruction_at};
+use vw_state::{Site, after_stmt, code_is_short, instruction_at};
 use vw_stmt::Stmt;
 
 /// The lowest number of the checks that fail at a point of a function with a state; `None` exactly where no
-/// check fails. The site is that of a declared function of the module. The checks are 1, code: nothing
-/// decodes in the bytes from the point to the function's end, as at each point at or above its size; 2, jump: a
-/// direct jump or branch leaves the function, or a jump through a register stands there; 4, address: an access that
-/// is not known to be of the heap, or of the word of the globals below it, or an instruction that this version cannot
-/// follow; 7, call: a call stands there. OutOfMemory where the allocator refuses a request.
+/// check fails. This holds where the site is that of a declared function of the module. The state names no bounds but its
+/// own. The checks are 1, code: nothing decodes in the bytes from the point to the function's end, as at each point at or above
+/// its size; 2, jump: a direct jump or branch leaves the function, or a jump through a register stands there; and at each
+/// statement, with the state before it, 3, depth: a write of the frame, as the push of a call, begins below the probed
+/// part of the stack and the guard, or rsp is not known at a call; 4, address: an access is not all in the heap, the
+/// globals or what may be read; 5, read only: a write of the frame ends above it, or the image is written; 6, local: what is
+/// read of the frame was not written; 7, call: what a call enters, or that rdi then holds the heap's base, is not known;
+/// 8, return: rsp or a register that the caller keeps is not known to be as it was. OutOfMemory where the allocator
+/// refuses a request.
 pub fn check(
     alloc: Global,
     loaded: &Module,
@@ -30,12 +40,14 @@ pub fn check(
     at: u32,
     state: &State,
 ) -> Result<Option<u8>, OutOfMemory>
-    requires { IsSiteOf loaded.now site.now }
+    requires whole { IsWhole loaded.now }
+    requires few { length site.now.tables.now ≤ 64 }
+    requires fits { Fits site.now.bounds.now state.now }
     ensures { (f : Function) → Contains loaded.now.functions f
         → IsSite (context_of loaded.now f) site.now
         → IfOk result (LowestFailing (context_of loaded.now f) at state.now) }
 {
-    Ok(failing(alloc, site, site.code(), at, state))
+    failing(alloc, loaded, site, site.code(), at, state)
 }
 
 /// The same, where the function's code is at hand.
@@ -47,48 +59,82 @@ pub fn check_of_code(
     at: u32,
     state: &State,
 ) -> Result<Option<u8>, OutOfMemory>
-    requires site { IsSiteOf loaded.now site.now }
+    requires whole { IsWhole loaded.now }
+    requires few { length site.now.tables.now ≤ 64 }
+    requires fits { Fits site.now.bounds.now state.now }
     requires code { code.now ≡ code_at site.now.image.now site.now.entry site.now.size }
     ensures { (f : Function) → Contains loaded.now.functions f
         → IsSite (context_of loaded.now f) site.now
         → IfOk result (LowestFailing (context_of loaded.now f) at state.now) }
 {
-    Ok(failing(alloc, site, code, at, state))
+    failing(alloc, loaded, site, code, at, state)
 }
 
 // The lowest number of the checks that fail at a point.
-fn failing(alloc: Global, site: &Site, code: &[u8], at: u32, state: &State) -> Option<u8>
-    requires { code.now ≡ code_at site.now.image.now site.now.entry site.now.size }
-    ensures { (f : Context) → IsSite f site.now → LowestFailing f at state.now result }
+fn failing(
+    alloc: Global,
+    loaded: &Module,
+    site: &Site,
+    code: &[u8],
+    at: u32,
+    state: &State,
+) -> Result<Option<u8>, OutOfMemory>
+    requires whole { IsWhole loaded.now }
+    requires few { length site.now.tables.now ≤ 64 }
+    requires fits { Fits site.now.bounds.now state.now }
+    requires code { code.now ≡ code_at site.now.image.now site.now.entry site.now.size }
+    ensures { (f : Context) → IsFunctionOf loaded.now f → IsSite f site.now
+        → IfOk result (LowestFailing f at state.now) }
 {
     code_is_short();
     let _size = site.size;
     let Some((insn, len)) = instruction_at(code, at) else {
-        return Some(1);
+        return Ok(Some(1));
     };
-    failing_insn(alloc, site, &insn, at + len, state)
+    failing_insn(alloc, loaded, site, &insn, at + len, state)
 }
 
 // The lowest number of the checks that fail at an instruction with `next` behind it.
-fn failing_insn(alloc: Global, site: &Site, insn: &Insn, next: u32, state: &State) -> Option<u8>
-    requires { IsListed insn.now }
-    ensures { (f : Context) → IsSite f site.now
-        → IsLowestOf (InsnFails f next state.now insn.now) result }
+fn failing_insn(
+    alloc: Global,
+    loaded: &Module,
+    site: &Site,
+    insn: &Insn,
+    next: u32,
+    state: &State,
+) -> Result<Option<u8>, OutOfMemory>
+    requires whole { IsWhole loaded.now }
+    requires listed { IsListed insn.now }
+    requires few { length site.now.tables.now ≤ 64 }
+    requires fits { Fits site.now.bounds.now state.now }
+    ensures { (f : Context) → IsFunctionOf loaded.now f → IsSite f site.now
+        → IfOk result (IsLowestOf (InsnFails f next state.now insn.now)) }
 {
     let stmts = lift(alloc, insn, 0, 0);
-    let at_stmts = failing_stmts(site, stmts.as_slice(), next, state);
-    let unfollowed = if is_followed(insn) { None } else { Some(4) };
-    lower(at_stmts, unfollowed)
+    let copy = state.copy()?;
+    failing_stmts(loaded, site, stmts.as_slice(), next, copy)
 }
 
-// The lowest number of the checks that fail at some statements.
-fn failing_stmts(site: &Site, stmts: &[Stmt], next: u32, state: &State) -> Option<u8>
-    ensures { (f : Context) → IsSite f site.now
-        → IsLowestOf (StmtsFail f next state.now stmts.now) result }
+// The lowest number of the checks that fail at some statements, the first of them with this state before it.
+fn failing_stmts(
+    loaded: &Module,
+    site: &Site,
+    stmts: &[Stmt],
+    next: u32,
+    state: State,
+) -> Result<Option<u8>, OutOfMemory>
+    requires whole { IsWhole loaded.now }
+    requires few { length site.now.tables.now ≤ 64 }
+    requires lifted { AllByRecursion IsLifted stmts.now }
+    requires fits { Fits site.now.bounds.now state }
+    ensures { (f : Context) → IsFunctionOf loaded.now f → IsSite f site.now
+        → IfOk result (IsLowestOf (StmtsFail f next (abstract_of state) stmts.now)) }
 {
     let mut lowest = None;
+    let mut current = state;
     for stmt in stmts {
-        lowest = lower(lowest, failing_stmt(site, stmt, next, state));
+        lowest = lower(lowest, failing_stmt(loaded, site, stmt, next, &current));
+        current = after_stmt(site, next, stmt, current)?;
     }
-    lowest
+    Ok(lowest)
 }

@@ -1,16 +1,21 @@
+ghost use Rattle.std.specs.Prelude.{◌≤◌, length};
+ghost use Rattle.vw_layout.specs.Layout.{IsWhole};
+
 use crate::check;
 use std::alloc::{AllocError, Global};
 use std::test::Fail;
 use vw_bits::List;
+use vw_domain::{entry_is_state, entry_state};
 use vw_layout::Module;
-use vw_state::{Site, entry_state};
+use vw_lift::lift;
+use vw_state::{Site, apply, bounds_of, code_of, instruction_at, lengths_of, tables_of};
 
 /// A number of so many bytes at an offset: (offset, bytes, number).
 type Patch = (usize, usize, u64);
 
-/// A file of 376 bytes with a function at address 120: one PT_LOAD with R and X, from 0 at address 0; eight
-/// bytes of code; a null symbol and one of the function; strings; the headers of three sections.
-const FILE: [Patch; 28] = [
+/// A file of 440 bytes with a function at address 376: one PT_LOAD with R and X, all of the file at address 0; a null
+/// symbol and one of the function; strings; the headers of three sections; up to 64 bytes of code.
+const FILE: [Patch; 29] = [
     (0, 4, 0x464c_457f),
     (4, 1, 2),
     (5, 1, 1),
@@ -24,13 +29,13 @@ const FILE: [Patch; 28] = [
     (60, 2, 3),
     (64, 4, 1),
     (68, 4, 5),
-    (96, 8, 128),
-    (104, 8, 128),
+    (96, 8, 440),
+    (104, 8, 440),
     (112, 8, 4096),
     (152, 4, 1),
     (156, 1, 0x12),
     (158, 2, 1),
-    (160, 8, 120),
+    (160, 8, 376),
     (177, 1, 0x66),
     (252, 4, 2),
     (272, 8, 128),
@@ -39,57 +44,165 @@ const FILE: [Patch; 28] = [
     (304, 8, 24),
     (316, 4, 3),
     (336, 8, 176),
+    (344, 8, 3),
 ];
 
-/// Eight bytes of code, the first one lowest, the size of the function that they begin with, a point, and the
-/// lowest number of a check that fails there.
-type Case = (u64, u64, u32, Option<u8>);
+/// The code of a function, one instruction behind the other, and the first point at which a check fails with the
+/// lowest number there; none where no check fails from the start to the end.
+type Case = (&'static [u8], Option<(u32, u8)>);
 
-const CASES: [Case; 34] = [
-    // nop, and behind its end
-    (0x90, 1, 0, None),
-    (0x90, 1, 1, Some(1)),
-    (0x90, 1, 2, Some(1)),
-    (0x90, 1, 0xffff_ffff, Some(1)),
-    // a byte that begins no instruction, and an instruction that the end cuts off
-    (0x06, 1, 0, Some(1)),
-    (0x8b90, 2, 1, Some(1)),
-    // jumps to the start, to the last byte, to the end, and below the start
-    (0xfeeb, 2, 0, None),
-    (0xffeb, 2, 0, None),
-    (0x00eb, 2, 0, Some(2)),
-    (0xfdeb, 2, 0, Some(2)),
-    (0x7feb, 2, 0, Some(2)),
-    // branches
-    (0xc3_fe74, 3, 0, None),
-    (0xc3_0174, 3, 0, Some(2)),
-    (0xc3_0275, 3, 0, Some(2)),
-    (0xc3_0275, 3, 2, None),
-    // mov eax, [rdi + disp8]: 0, 8, -8, -1, -128
-    (0xc3_078b, 3, 0, None),
-    (0xc3_0847_8b, 4, 0, None),
-    (0xc3_f847_8b, 4, 0, Some(4)),
-    (0xc3_ff47_8b, 4, 0, Some(4)),
-    (0xc3_8047_8b, 4, 0, Some(4)),
-    // mov [rdi - 8], eax
-    (0xc3_f847_89, 4, 0, Some(4)),
-    // mov eax, [rdi + disp32]: -2^31, -1, 2^31 - 1
-    (0xc3_8000_0000_878b, 7, 0, Some(4)),
-    (0xc3_ffff_ffff_878b, 7, 0, Some(4)),
-    (0xc3_7fff_ffff_878b, 7, 0, None),
-    // what this version cannot follow: MOV of 64 bits, of ecx, at rsi, with an index; an addition; ENDBR64
-    (0xc3_f847_8b48, 5, 0, Some(4)),
-    (0xc3_f84f_8b, 4, 0, Some(4)),
-    (0xc3_f846_8b, 4, 0, Some(4)),
-    (0xc3_f837_448b, 5, 0, Some(4)),
-    (0xc3_c001_48, 4, 0, Some(4)),
-    (0xfa1e_0ff3, 4, 0, Some(4)),
-    // a jump through a register, calls
-    (0xe0ff, 2, 0, Some(2)),
-    (0xc3_0000_0000_e8, 6, 0, Some(7)),
-    (0xc3_d0ff, 3, 0, Some(7)),
-    // ret
-    (0xc3, 1, 0, None),
+const CASES: [Case; 71] = [
+    // code: NOP, a byte that begins no instruction, and an instruction that the end cuts off
+    (&[0x90], None),
+    (&[0x06], Some((0, 1))),
+    (&[0x90, 0x8b], Some((1, 1))),
+    // jump: to the start, to the last byte, to the end, below the start; a branch; a jump through a register
+    (&[0xeb, 0xfe], None),
+    (&[0xeb, 0xff], None),
+    (&[0xeb, 0x00], Some((0, 2))),
+    (&[0xeb, 0xfd], Some((0, 2))),
+    (&[0x74, 0xfe, 0xc3], None),
+    (&[0x75, 0x01, 0xc3], Some((0, 2))),
+    (&[0xff, 0xe0], Some((0, 2))),
+    // probed: a write at the guard's first byte, and below it
+    (&[0x48, 0x89, 0x84, 0x24, 0x00, 0xe0, 0xff, 0xff], None),
+    (
+        &[0x48, 0x89, 0x84, 0x24, 0xff, 0xdf, 0xff, 0xff],
+        Some((0, 3)),
+    ),
+    // the same of a call's push; a call with rsp at no known offset
+    (
+        &[
+            0x48, 0x81, 0xec, 0xf8, 0x1f, 0x00, 0x00, 0xe8, 0xf4, 0xff, 0xff, 0xff,
+        ],
+        None,
+    ),
+    (
+        &[
+            0x48, 0x81, 0xec, 0xf9, 0x1f, 0x00, 0x00, 0xe8, 0xf4, 0xff, 0xff, 0xff,
+        ],
+        Some((7, 3)),
+    ),
+    (
+        &[0x48, 0x89, 0xc4, 0xe8, 0xf8, 0xff, 0xff, 0xff],
+        Some((3, 3)),
+    ),
+    // address: reads of the heap, of the word below it, of half of it, and of a number; writes of the heap and below it
+    (&[0x8b, 0x47, 0x08], None),
+    (&[0x48, 0x8b, 0x47, 0xf8], None),
+    (&[0x8b, 0x47, 0xf8], Some((0, 4))),
+    (&[0x48, 0x8b, 0x47, 0xf7], Some((0, 4))),
+    (&[0x8b, 0x06], Some((0, 4))),
+    (&[0x89, 0x07], None),
+    (&[0x48, 0x89, 0x47, 0xf8], Some((0, 4))),
+    // the greatest displacement, with an index of 32 bits and without; the last two bytes of the heap,
+    // and behind them; an index whose scale leads out of the heap
+    (&[0x8b, 0x87, 0xff, 0xff, 0xff, 0x7f], None),
+    (
+        &[0x89, 0xf6, 0x8b, 0x84, 0x37, 0xff, 0xff, 0xff, 0x7f],
+        None,
+    ),
+    (&[0x89, 0xf6, 0x0f, 0xb7, 0x04, 0x77], None),
+    (&[0x89, 0xf6, 0x0f, 0xb7, 0x44, 0x77, 0x01], Some((2, 4))),
+    (&[0x89, 0xf6, 0x8b, 0x04, 0xb7], Some((2, 4))),
+    // the globals: their first and last bytes, and behind them
+    (&[0x48, 0x8b, 0x47, 0xf8, 0x48, 0x8b, 0x00], None),
+    (
+        &[0x48, 0x8b, 0x47, 0xf8, 0x8b, 0x80, 0xfc, 0x0f, 0x00, 0x00],
+        None,
+    ),
+    (
+        &[0x48, 0x8b, 0x47, 0xf8, 0x8b, 0x80, 0xfd, 0x0f, 0x00, 0x00],
+        Some((4, 4)),
+    ),
+    (&[0x48, 0x8b, 0x47, 0xf8, 0x89, 0x40, 0xff], Some((4, 4))),
+    // the image: the last byte, behind it; the last word, and one byte further
+    (&[0x0f, 0xb6, 0x05, 0x38, 0x00, 0x00, 0x00], None),
+    (&[0x0f, 0xb6, 0x05, 0x39, 0x00, 0x00, 0x00], Some((0, 4))),
+    (&[0x48, 0x8b, 0x05, 0x31, 0x00, 0x00, 0x00], None),
+    (&[0x48, 0x8b, 0x05, 0x32, 0x00, 0x00, 0x00], Some((0, 4))),
+    // a table of eight numbers of four bytes at the end of the image, and one byte further; bytes at each eighth address
+    (
+        &[
+            0x48, 0x8d, 0x0d, 0x19, 0x00, 0x00, 0x00, 0x83, 0xe6, 0x07, 0x8b, 0x04, 0xb1,
+        ],
+        None,
+    ),
+    (
+        &[
+            0x48, 0x8d, 0x0d, 0x1a, 0x00, 0x00, 0x00, 0x83, 0xe6, 0x07, 0x8b, 0x04, 0xb1,
+        ],
+        Some((10, 4)),
+    ),
+    (
+        &[
+            0x48, 0x8d, 0x0d, 0x00, 0x00, 0x00, 0x00, 0x83, 0xe6, 0x07, 0x0f, 0xb6, 0x04, 0xf1,
+        ],
+        None,
+    ),
+    (
+        &[
+            0x48, 0x8d, 0x0d, 0x01, 0x00, 0x00, 0x00, 0x83, 0xe6, 0x07, 0x0f, 0xb6, 0x04, 0xf1,
+        ],
+        Some((10, 4)),
+    ),
+    // own: writes of the frame's last bytes, and above it; a push there; writes of the image
+    (&[0x48, 0x89, 0x44, 0x24, 0xf8], None),
+    (&[0x48, 0x89, 0x44, 0x24, 0xf9], Some((0, 5))),
+    (&[0x48, 0x89, 0x04, 0x24], Some((0, 5))),
+    (&[0x88, 0x44, 0x24, 0xff], None),
+    (&[0x50], None),
+    (
+        &[0x48, 0x83, 0xc4, 0x08, 0xe8, 0xf7, 0xff, 0xff, 0xff],
+        Some((4, 5)),
+    ),
+    (&[0x48, 0x89, 0x05, 0x00, 0x00, 0x00, 0x00], Some((0, 5))),
+    (&[0x48, 0x01, 0x05, 0x00, 0x00, 0x00, 0x00], Some((0, 5))),
+    // known: reads behind the return address, of its last byte, up to 4,104 bytes above rsp, and one further
+    (&[0x48, 0x8b, 0x44, 0x24, 0x08], None),
+    (&[0x48, 0x8b, 0x44, 0x24, 0x07], Some((0, 6))),
+    (&[0x48, 0x8b, 0x84, 0x24, 0x00, 0x10, 0x00, 0x00], None),
+    (
+        &[0x48, 0x8b, 0x84, 0x24, 0x01, 0x10, 0x00, 0x00],
+        Some((0, 6)),
+    ),
+    (&[0x58], Some((0, 6))),
+    // what was written, what was not, and what was in part; the lower number where a read and a write fail
+    (
+        &[0x48, 0x89, 0x44, 0x24, 0xf8, 0x48, 0x8b, 0x44, 0x24, 0xf8],
+        None,
+    ),
+    (&[0x48, 0x8b, 0x44, 0x24, 0xf8], Some((0, 6))),
+    (
+        &[0x89, 0x44, 0x24, 0xf8, 0x48, 0x8b, 0x44, 0x24, 0xf8],
+        Some((4, 6)),
+    ),
+    (
+        &[
+            0x89, 0x44, 0x24, 0xf8, 0x89, 0x44, 0x24, 0xfc, 0x48, 0x8b, 0x44, 0x24, 0xf8,
+        ],
+        None,
+    ),
+    (&[0x48, 0x01, 0x04, 0x24], Some((0, 5))),
+    // call: of the function itself, of an address where none begins, without the heap's base, and through a register
+    (&[0xe8, 0xfb, 0xff, 0xff, 0xff], None),
+    (&[0xe8, 0x00, 0x00, 0x00, 0x00], Some((0, 7))),
+    (
+        &[0x48, 0x89, 0xf7, 0xe8, 0xf8, 0xff, 0xff, 0xff],
+        Some((3, 7)),
+    ),
+    (&[0xff, 0xd0], Some((0, 7))),
+    // return: at the entry, with rsp below, with each register that the caller keeps, with another, and with one restored
+    (&[0xc3], None),
+    (&[0x50, 0xc3], Some((1, 8))),
+    (&[0x48, 0x89, 0xc3, 0xc3], Some((3, 8))),
+    (&[0x48, 0x89, 0xc5, 0xc3], Some((3, 8))),
+    (&[0x49, 0x89, 0xc4, 0xc3], Some((3, 8))),
+    (&[0x49, 0x89, 0xc5, 0xc3], Some((3, 8))),
+    (&[0x49, 0x89, 0xc6, 0xc3], Some((3, 8))),
+    (&[0x49, 0x89, 0xc7, 0xc3], Some((3, 8))),
+    (&[0x48, 0x89, 0xc1, 0xc3], None),
+    (&[0x53, 0x48, 0x89, 0xc3, 0x5b, 0xc3], None),
 ];
 
 fn patch(bytes: &mut Vec<u8>, patches: &[Patch]) {
@@ -104,36 +217,75 @@ fn patch(bytes: &mut Vec<u8>, patches: &[Patch]) {
     }
 }
 
-fn file(alloc: Global, code: u64, size: u64) -> Result<List<u8>, AllocError> {
-    let mut bytes = vec![in alloc; 0u8; 376]?;
+fn put(bytes: &mut Vec<u8>, code: &[u8]) {
+    for (index, byte) in code.iter().enumerate() {
+        let place = index.wrapping_add(376);
+        if place < bytes.len() {
+            bytes[place] = *byte;
+        }
+    }
+}
+
+fn file(alloc: Global, code: &[u8]) -> Result<List<u8>, AllocError> {
+    let mut bytes = vec![in alloc; 0u8; 440]?;
     patch(&mut bytes, &FILE);
-    patch(&mut bytes, &[(120, 8, code), (168, 8, size), (344, 8, 3)]);
+    patch(&mut bytes, &[(168, 8, code.len() as u64)]);
+    put(&mut bytes, code);
     Ok(List::from_vec(bytes))
 }
 
-/// The check of a point of the first function of a file, with the entry state. `None` where there is no
-/// function or memory is refused.
-fn checked(alloc: Global, bytes: List<u8>, at: u32) -> Option<Option<u8>> {
+/// The first point of a function at which a check fails, with its number, from the entry state on along its code.
+/// `None` where memory is refused.
+fn walk(alloc: Global, loaded: &Module, site: &Site) -> Option<Option<(u32, u8)>>
+    requires whole { IsWhole loaded.now }
+    requires few { length site.now.tables.now ≤ 64 }
+{
+    entry_is_state();
+    let code = site.code();
+    let mut state = entry_state(alloc);
+    let mut at = 0;
+    for _ in 0..16 {
+        if site.size <= at {
+            return Some(None);
+        }
+        if let Some(number) = check(alloc, loaded, site, at, &state).ok()? {
+            return Some(Some((at, number)));
+        }
+        let (insn, len) = instruction_at(code, at)?;
+        at = at.saturating_add(len);
+        apply(site, at, lift(alloc, &insn, 0, 0).as_slice(), &mut state).ok()?;
+    }
+    None
+}
+
+/// The same of the first function of a file. `None` also where there is none.
+fn walked(alloc: Global, bytes: List<u8>) -> Option<Option<(u32, u8)>> {
     let loaded = Module::read(alloc, bytes).ok()?;
-    let state = entry_state(alloc).ok()?;
+    let tables = tables_of(alloc, &loaded).ok()?;
+    let lengths = lengths_of(alloc, &loaded).ok()?;
     let functions = loaded.functions.as_slice();
     if functions.len() == 0 {
         return None;
     }
+    let (entry, size) = (functions[0].entry, functions[0].size);
+    let code = code_of(&loaded.image, entry, size);
+    let bounds = bounds_of(alloc, code, lengths.as_slice()).ok()?;
     let site = Site {
         image: &loaded.image,
-        entry: functions[0].entry,
-        size: functions[0].size,
+        tables: &tables,
+        entry,
+        size,
+        bounds: &bounds,
     };
-    check(alloc, &loaded, &site, at, &state).ok()
+    walk(alloc, &loaded, &site)
 }
 
 #[test]
-fn checks_at_points(rt: HostRuntime) -> Result<(), Fail> {
-    for (code, size, at, number) in CASES.iter() {
-        let bytes = file(rt.alloc(), *code, *size)?;
-        let found = checked(rt.alloc(), bytes, *at).ok_or("check")?;
-        assert_eq!(rt; found, *number, "{code:#x}, {size} bytes, at {at}");
+fn checks_along_code(rt: HostRuntime) -> Result<(), Fail> {
+    for (code, failing) in CASES.iter() {
+        let bytes = file(rt.alloc(), *code)?;
+        let found = walked(rt.alloc(), bytes).ok_or("check")?;
+        assert_eq!(rt; found, *failing, "{code:?}");
     }
     Ok(())
 }

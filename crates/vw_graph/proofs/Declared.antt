@@ -1,8 +1,8 @@
 -- A function of a module by its number.
-use Rattle.std.proofs.Common.{◌≡◌, ℕ, ◌<◌, ◌≤◌, List, length, get_or, Some, Result, Ok, Err, IfOk, sym, ◌∙◌, ap, subst}
+use Rattle.std.proofs.Common.{◌≡◌, ℕ, ◌<◌, ◌≤◌, List, length, get_or, Some, Result, Ok, Err, IfOk, refl, sym, ◌∙◌, ap, subst}
 use Rattle.std.specs.Prelude.{Contains}
 use Rattle.std.specs.List.{slice_get}
-use Rattle.std.proofs.lemmas.Option.{get_or_from_slice_get}
+use Rattle.std.proofs.lemmas.Option.{get_or_from_slice_get, slice_get_read}
 use Rattle.vw_layout.specs.declared.functions.Function.{Function}
 use Rattle.vw_layout.specs.Layout.{IsModule, declared_functions}
 use Rattle.vw_layout.specs.Laws.{IsCode}
@@ -15,6 +15,10 @@ module _ (functions : List Function) (number : ℕ) (f : Function) (xs : List Fu
   pub short : (file : List ℕ) → ((file : List ℕ) (f : Function) → IsModule file → Contains (declared_functions file) f → IsCode file f) → IsModule file → functions ≡ declared_functions file → number < length functions → f.size ≤ 1048576
   short file law is_module declared less =
       (law file f is_module (subst (λ (ys : List Function). Contains ys f) declared (number, less, it))).short
+
+  -- it is the one with its number
+  pub is_numbered : number < length functions → slice_get functions number ≡ Some f
+  is_numbered less = slice_get_read functions (length functions) number f refl less (sym it)
 
   pub one_function : (g : Function) → slice_get functions number ≡ Some g → f ≡ g
   one_function g e = sym it ∙ get_or_from_slice_get functions number g f e

@@ -1,6 +1,9 @@
 mod Targets
 mod Gathered
-mod Spread
+mod StandingLemmas
 mod Least
 mod Ended
 mod Declared
+mod Counting
+mod Heights
+mod FirstRound

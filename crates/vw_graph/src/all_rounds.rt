@@ -1,7 +1,7 @@
 use vw_state::FunctionTable;
 
 /// How the rounds over a function end. Points are offsets from its first byte, from 0 to its size.
-#[derive(Debug, Drop)]
+#[derive(Drop)]
 pub enum Rounds {
     /// Neither check 1 nor check 2 fails at a point of this table, the function's least one: at each an instruction
     /// begins, and it is no direct jump or branch out of the function and no jump through a register.

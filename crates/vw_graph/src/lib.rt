@@ -8,7 +8,7 @@ mod round;
 mod solved;
 
 pub use all_rounds::Rounds;
-pub use round::rounds;
+pub use round::{rounds, rounds_at};
 
 #[cfg(test)]
 mod tests;

@@ -3,8 +3,9 @@ ghost use Rattle.vw_graph.specs.Solved.{gather, held};
 
 use std::alloc::Global;
 use vw_bits::{List, OutOfMemory};
+use vw_domain::State;
 use vw_solver::Solved;
-use vw_state::{PointState, State};
+use vw_state::PointState;
 
 /// The points that have a state, ascending.
 pub(crate) fn point_states(

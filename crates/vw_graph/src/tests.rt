@@ -50,7 +50,7 @@ const FILE: [Patch; 28] = [
 /// the rounds stop, and the points of the table.
 type Case = (u64, u64, Option<(u32, u8)>, &'static [u32]);
 
-const CASES: [Case; 17] = [
+const CASES: [Case; 18] = [
     (0xc3, 1, None, &[0]),
     (0x0b0f, 2, None, &[0]),
     // loops
@@ -70,6 +70,8 @@ const CASES: [Case; 17] = [
     // two places: the lowest one, whichever check
     (0x9090_0274, 4, Some((0, 2)), &[0, 2, 3, 4]),
     (0x7f_eb06_0174, 5, Some((2, 1)), &[0, 2, 3]),
+    // the branch is never taken: no number is below 0
+    (0xc3fc_7200_f883_c031, 8, None, &[0, 2, 5, 7]),
     // a call goes on, and a jump through a register may leave
     (0xc3_0000_0000_e8, 6, None, &[0, 5]),
     (0xe0ff, 2, Some((0, 2)), &[0]),

@@ -1,7 +1,6 @@
 -- Addresses in an instance that is laid out well.
-use Rattle.std.proofs.Common.{◌≡◌, pos, ◌≢◌, ℕ, zero, suc, ◌+◌, ◌-◌, ◌%◌, ◌^◌, ◌≤◌, ◌<◌, List, [], ◌∷◌, refl, subst, arith, lit<}
+use Rattle.std.proofs.Common.{◌≡◌, ◌≢◌, ℕ, zero, suc, ◌+◌, ◌-◌, ◌^◌, ◌≤◌, ◌<◌, List, [], ◌∷◌, refl, subst, arith, lit<}
 use Rattle.vw_bits.specs.Fields.{load}
-use Rattle.vw_insn.specs.Words.{word_of}
 use Rattle.std.specs.Prelude.{Contains}
 use Rattle.std.specs.List.{AllByRecursion}
 use Rattle.vw_machine.specs.declared.world.World.{World}
@@ -43,10 +42,6 @@ module _ {image : List Range} {imports : ℕ} {w : World} (laid : IsLaidOut imag
   image_low part of_image a low high =
       let below = all_of (λ (p : Range). IsBelowTop (loaded_range w p)) image laid.image_ends part of_image in
       below a (omega arith, omega arith)
-
--- an access of four bytes so far above the heap's base lies in its reservation
-pub heap_address : (heap r n : ℕ) → r ≡ heap → n + 4 ≤ 2 ^ 33 → heap + 2 ^ 33 ≤ 2 ^ 47 → (heap ≤ (r + word_of (pos n)) % 2 ^ 64) × ((r + word_of (pos n)) % 2 ^ 64 + 4 ≤ heap + 2 ^ 33)
-heap_address heap r n is inside ends = (omega arith, omega arith)
 
 -- a number that is loaded depends on its bytes alone
 pub load_same : (old new : Bytes) (a n : ℕ) → ((q : ℕ) → a ≤ q → q < a + n → new q ≡ old q) → load new a n ≡ load old a n

@@ -1,8 +1,6 @@
 pub mod Instances
 pub mod Spellings
 pub mod Choices
-pub mod Moves
-pub mod Steps
 pub mod Modules
 pub mod Witnesses
 pub mod Suspended
@@ -24,3 +22,4 @@ pub mod TableSteps
 pub mod StubReads
 pub mod StubEntries
 pub mod TableRules
+pub mod StateTables

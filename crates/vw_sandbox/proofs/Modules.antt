@@ -1,10 +1,11 @@
 -- From the rules of a module to the code that its functions hold in every instance.
-use Rattle.std.proofs.Common.{◌≡◌, ℕ, zero, suc, ◌+◌, ◌-◌, ◌≤◌, ◌<◌, ◌&&◌, ◌||◌, Bool, true, false, List, [], ◌∷◌, length, get_or, map, take, drop, Option, Some, None, slice_index, refl, sym, ◌∙◌, ap, subst, arith, lit<}
+use Rattle.std.proofs.Common.{◌≡◌, ℕ, zero, suc, ◌+◌, ◌-◌, ◌≤◌, ◌<◌, ◌&&◌, ◌||◌, Bool, true, false, List, [], ◌∷◌, length, get_or, map, take, drop, Option, Some, None, slice_index, refl, sym, ◌∙◌, ap, arith, lit<}
 use Rattle.std.specs.Prelude.{Contains}
 use Rattle.std.specs.List.{find, list_any}
 use Rattle.std.specs.Option.{option_or}
 use Rattle.std.proofs.lemmas.Bool.{false≢true}
 use Rattle.std.proofs.lemmas.Bool.Decides.{nat_tests}
+use Rattle.std.proofs.lemmas.List.{drop_more}
 use Rattle.vw_bits.specs.Headers.{segments_of, is_executable}
 use Rattle.vw_bits.specs.HeaderRules.{header_fault}
 use Rattle.vw_bits.specs.Places.{is_among, in_file_part, in_memory, file_offset}
@@ -18,29 +19,11 @@ use Rattle.vw_rows.specs.Numbers.{IsBytes}
 use Rattle.vw_layout.specs.declared.functions.Function.{Function}
 use Rattle.vw_layout.specs.Layout.{module_fault, layout_fault, IsModule, declared_functions}
 use Rattle.vw_layout.specs.Laws.{IsCode}
-use Rattle.vw_layout.specs.declared.layout.Module.{Module as Declared}
-use Rattle.vw_stmt.specs.declared.operands.Var.{Var}
-use Rattle.vw_insn.specs.declared.instruction.Insn.{Insn}
-use Rattle.vw_state.specs.Code.{code_at, BeginsAt}
-use Rattle.vw_state.specs.Context.{Context, code_of, context_of}
-use Rattle.vw_state.specs.Post.{PostBy, edges_by, destinations}
-use Rattle.vw_state.specs.declared.state.State.{State as Known}
-use Rattle.vw_state.specs.declared.tables.FunctionTable.{FunctionTable}
-use Rattle.vw_state.specs.declared.tables.Tables.{Tables}
-use Rattle.vw_checks.specs.Checks.{Passes}
-use Rattle.vw_checks.specs.Covered.{IsCovered}
-use Rattle.vw_checks.specs.Safe.{IsSafeTable}
-use Rattle.vw_checks.specs.Modules.{TablesOf, AreSafe}
+use Rattle.vw_state.specs.Code.{code_at}
 use Rattle.vw_machine.specs.declared.world.World.{World}
-use Rattle.vw_machine.specs.World.{IsLaidOut}
-use Rattle.vw_machine.specs.Module.{Module, declared_module, module_of, segment_range}
-use Rattle.vw_machine.specs.State.{State}
-use Rattle.vw_machine.specs.Entered.{IsInitial}
-use Rattle.vw_sandbox.specs.Runs.{Reaches}
-use Rattle.vw_sandbox.specs.Sandboxed.{IsSandboxed}
+use Rattle.vw_machine.specs.World.{Range}
+use Rattle.vw_machine.specs.Module.{Module, module_of, bytes_from, segment_range}
 use Rattle.vw_sandbox.proofs.Instances.{all_of}
-use Rattle.vw_sandbox.proofs.Choices.{StandsAlone, IsSafeState}
-use Rattle.vw_sandbox.proofs.Steps.{HoldsCode, safe_runs}
 
 -- what the crates below say of files
 pub record Laws : Type 0 where
@@ -80,7 +63,7 @@ any_of p (y ∷ xs) x (zero, inside, is) passes = let here : p y ≡ true = ap p
 any_of p (y ∷ xs) x (suc k, inside, is) passes = let later = any_of p xs x (k, omega arith, is) passes in rw later (or_any (p y))
 
 -- where one passes, one is found that passes
-abbrev IsFound : {X : Type 0} → (X → Bool) → List X → Type 0
+abbrev pub IsFound : {X : Type 0} → (X → Bool) → List X → Type 0
 IsFound {X} p xs = (y : X) × Contains xs y × (p y ≡ true) × (find p xs ≡ Some y)
 
 found_first : {X : Type 0} (p : X → Bool) (y : X) (xs : List X) (passes : Bool) → p y ≡ passes → (passes ≡ false → IsFound p xs) → IsFound p (y ∷ xs)
@@ -88,7 +71,7 @@ found_first p y xs true is later = (y, (0, omega arith, refl), is, rw is refl)
 found_first p y xs false is later =
     let found = later refl in (found.0, (suc found.1.0, omega (arith, found.1.1), found.1.2), found.2, rw is found.3)
 
-found_of : {X : Type 0} (p : X → Bool) (xs : List X) (x : X) → Contains xs x → p x ≡ true → IsFound p xs
+pub found_of : {X : Type 0} (p : X → Bool) (xs : List X) (x : X) → Contains xs x → p x ≡ true → IsFound p xs
 found_of p [] x (k, inside, is) passes = absurd (omega arith)
 found_of p (y ∷ xs) x (zero, inside, is) passes = found_first p y xs true (ap p is ∙ passes) (λ e. absurd (false≢true (sym e)))
 found_of p (y ∷ xs) x (suc k, inside, is) passes = found_first p y xs (p y) refl (λ e. found_of p xs x (k, omega arith, is) passes)
@@ -104,7 +87,7 @@ both_true true true one two = refl
 both_true true false one two = two
 both_true false b one two = one
 
-IsBytes-drop : (n : ℕ) (bytes : List ℕ) → IsBytes bytes → IsBytes (drop n bytes)
+pub IsBytes-drop : (n : ℕ) (bytes : List ℕ) → IsBytes bytes → IsBytes (drop n bytes)
 IsBytes-drop zero bytes are i = are i
 IsBytes-drop (suc n) [] are i = are i
 IsBytes-drop (suc n) (b ∷ bytes) are i = IsBytes-drop n bytes (λ k. are (suc k)) i
@@ -114,6 +97,25 @@ IsBytes-take zero bytes are i = lit< tt
 IsBytes-take (suc n) [] are i = are i
 IsBytes-take (suc n) (b ∷ bytes) are zero = are 0
 IsBytes-take (suc n) (b ∷ bytes) are (suc i) = IsBytes-take n bytes (λ k. are (suc k)) i
+
+-- The bytes of a function in every instance are this code, and it lies in a part of the image.
+pub record HoldsCode (m : Module) (f : Function) (code : List ℕ) : Type 0 where
+  pub listed : Contains m.functions f
+  pub sized : f.size ≡ length code
+  pub some : 1 ≤ length code
+  pub part : Range
+  pub of_image : Contains m.image part
+  pub part_low : part.from ≤ f.entry
+  pub part_high : f.entry + f.size ≤ part.to
+  pub byte : (w : World) (k : ℕ) → k < length code → m.byte w (f.entry + k) ≡ get_or code k 0
+
+-- bytes of the image are those of the code
+pub code_bytes : {m : Module} {f : Function} {code : List ℕ} (held : HoldsCode m f code) (w : World) (point len : ℕ) → point + len ≤ length code → bytes_from (m.byte w) (f.entry + point) len ≡ take len (drop point code)
+code_bytes held w point zero inside = refl
+code_bytes {m} {f} {code} held w point (suc len) inside =
+    let here : point < length code = omega arith in
+    let next : (f.entry + point) + 1 ≡ f.entry + (point + 1) = omega arith in
+    rw (drop_more code point 0 here, held.byte w point here, next, code_bytes held w (point + 1) len (omega arith)) refl
 
 module _ (laws : Laws) (file : List ℕ) (is : IsModule file) (f : Function) (listed : Contains (declared_functions file) f) where
   code : IsCode file f
@@ -140,7 +142,7 @@ module _ (laws : Laws) (file : List ℕ) (is : IsModule file) (f : Function) (li
   length-code : length (code_at (image_of file) f.entry f.size) ≡ f.size
   length-code = laws.sized file f is listed
 
-  are_bytes : IsBytes file → IsBytes (code_at (image_of file) f.entry f.size)
+  pub are_bytes : IsBytes file → IsBytes (code_at (image_of file) f.entry f.size)
   unfolding image_of bytes_at code_at
   are_bytes bytes = rw placed (IsBytes-take f.size (drop place file) (IsBytes-drop place file bytes))
 
@@ -181,39 +183,3 @@ module _ (laws : Laws) (file : List ℕ) (is : IsModule file) (f : Function) (li
         part_high = part.2;
         byte = byte_of_code;
       }
-
--- the table of a function
-table_for : (m : Declared) (functions : List Function) (tables : List FunctionTable) (f : Function) → Contains functions f → TablesOf IsSafeTable m functions tables
-    → (t : FunctionTable) × Contains tables t × (t.entry ≡ f.entry) × IsSafeTable (context_of m f) t.states
-table_for m [] tables f (k, inside, is) safe = absurd (omega arith)
-table_for m (g ∷ functions) [] f (k, inside, is) safe = absurd safe
-table_for m (g ∷ functions) (t ∷ tables) f (zero, inside, is) safe =
-    (t, (0, omega arith, refl), safe.0 ∙ ap (λ (h : Function). h.entry) is, subst (λ (h : Function). IsSafeTable (context_of m h) t.states) is safe.1)
-table_for m (g ∷ functions) (t ∷ tables) f (suc k, inside, is) safe =
-    let later = table_for m functions tables f (k, omega arith, is) safe.2 in
-    (later.0, (suc later.1.0, omega (arith, later.1.1), later.1.2), later.2, later.3)
-
--- Safe tables keep each run of a module in its sandbox.
-pub safe_module : Laws
-    → ((f : Context) (targets : Var → Known → List ℕ) (at : ℕ) (known : Known) → IsBytes (code_of f) → PostBy f targets at known (edges_by f targets at known))
-    → ((f : Context) (at len : ℕ) (known : Known) (i : Insn) → Passes f at known → BeginsAt (code_of f) at i len → IsCovered i)
-    → ((m : Module) (w : World) → IsLaidOut m.image m.imports w → StandsAlone m w)
-    → (file : List ℕ) (tables : Tables) → IsModule file → IsBytes file → AreSafe (declared_module file) tables → IsSandboxed (module_of file) tables.functions
-unfolding module_of
-safe_module laws posts covers alone file tables is bytes safe =
-    let safe_run : (w : World) → IsLaidOut (module_of file).image (module_of file).imports w → (f : Function) → Contains (module_of file).functions f → (first : State) → IsInitial w f first
-    → (s : State) → Reaches (module_of file) w first s → IsSafeState (module_of file) w tables.functions first.registers s =
-    λ w laid f listed first initial s run.
-    let m = declared_module file in
-    let t = table_for m (declared_functions file) tables.functions f listed safe in
-    safe_runs (module_of file) f (context_of m f) refl (holds_code laws file is f listed) tables.functions t.0 t.1 t.2 t.3
-    (λ at known. posts (context_of m f) (destinations (context_of m f)) at known (are_bytes laws file is f listed bytes))
-    (covers (context_of m f))
-    w laid (alone (module_of file) w laid) first initial s run in
-    record {
-      steps = λ w laid f listed first initial s run. (safe_run w laid f listed first initial s run).steps;
-      permitted = λ w laid f listed first initial s run. (safe_run w laid f listed first initial s run).permitted;
-      keeps_to_tables = λ w laid f listed first initial s run. (safe_run w laid f listed first initial s run).keeps_to_tables;
-      passes_heap = λ w laid f listed first initial s run. (safe_run w laid f listed first initial s run).passes_heap;
-      keeps_registers = λ w laid f listed first initial s run. (safe_run w laid f listed first initial s run).keeps_registers;
-    }

@@ -12,7 +12,7 @@ use Rattle.vw_rows.specs.Spelling.{Spells}
 use Rattle.vw_layout.specs.declared.functions.Function.{Function}
 use Rattle.vw_machine.specs.declared.world.World.{World}
 use Rattle.vw_machine.specs.declared.choice.Choice.{Choice}
-use Rattle.vw_machine.specs.World.{is_within, stack_range}
+use Rattle.vw_machine.specs.World.{Range, IsWithin, is_within, stack_range}
 use Rattle.vw_machine.specs.Module.{Module, bytes_from}
 use Rattle.vw_machine.specs.State.{Activation}
 use Rattle.vw_machine.specs.Step.{is_saved, loads}
@@ -20,7 +20,25 @@ use Rattle.vw_sandbox.specs.Maps.{entries}
 use Rattle.vw_sandbox.specs.Assertions.{Moment, SavesRegisters, IsRunning, IsStepKept, IsPointKept, AreKept}
 use Rattle.vw_sandbox.proofs.Instances.{stack_ends, heap_or_stack}
 use Rattle.vw_sandbox.proofs.SetUp.{IsSetUp}
-use Rattle.vw_sandbox.proofs.Steps.{chosen, taken, refuted, both, within_is_true}
+
+chosen : {A : Type 0} (b : Bool) (x y : A) → b ≡ false → (if b then x else y) ≡ y
+chosen true x y h = absurd (let e : true ≡ false = h in cc)
+chosen false x y h = refl
+
+taken : {A : Type 0} (b : Bool) (x y : A) → b ≡ true → (if b then x else y) ≡ x
+taken true x y h = refl
+taken false x y h = absurd (let e : false ≡ true = h in cc)
+
+refuted : (b : Bool) → (b ≡ true → ⊥) → b ≡ false
+refuted true never = absurd (never refl)
+refuted false never = refl
+
+both : (a b : Bool) → a && b ≡ true → (a ≡ true) × (b ≡ true)
+both true b h = (refl, h)
+both false b h = absurd (let e : false ≡ true = h in cc)
+
+within_is_true : (a n : ℕ) (range : Range) → IsWithin a n range → is_within a n range ≡ true
+within_is_true a n range h = let one = h.0 in let two = h.1 in grind (arith, nat_tests)
 
 -- rsp is at the return address, and the callee-saved registers are as they were at the entry
 abbrev pub JustEntered : Function → ℕ → Registers → Activation → Moment → Type 0

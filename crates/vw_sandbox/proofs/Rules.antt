@@ -68,7 +68,7 @@ find_passes {X} p (y ∷ ys) x is = by_first (p y) refl (find_passes p ys x) is
     by_first true e later f = subst (λ z. p z ≡ true) (some_is f) e
     by_first false e later f = later f
 
-or_cases : (a b : Bool) → (a || b) ≡ true → (a ≡ true) ⊎ (b ≡ true)
+pub or_cases : (a b : Bool) → (a || b) ≡ true → (a ≡ true) ⊎ (b ≡ true)
 or_cases true b e = inl refl
 or_cases false b e = inr e
 
@@ -76,7 +76,7 @@ and_both : (a b : Bool) → (a && b) ≡ true → (a ≡ true) × (b ≡ true)
 and_both true b e = (refl, e)
 and_both false b e = absurd (false≢true e)
 
-any_passes : {X : Type 0} (p : X → Bool) (xs : List X) → list_any p xs ≡ true → (x : X) × Contains xs x × (p x ≡ true)
+pub any_passes : {X : Type 0} (p : X → Bool) (xs : List X) → list_any p xs ≡ true → (x : X) × Contains xs x × (p x ≡ true)
 any_passes p [] is = absurd (false≢true is)
 any_passes {X} p (y ∷ ys) is = by_cases (or_cases (p y) (list_any p ys) is) (any_passes p ys)
   where
@@ -84,7 +84,7 @@ any_passes {X} p (y ∷ ys) is = by_cases (or_cases (p y) (list_any p ys) is) (a
     by_cases (inl here) later = (y, (0, omega arith, refl), here)
     by_cases (inr there) later = let found = later there in (found.0, (suc found.1.0, omega (arith, found.1.1), found.1.2), found.2)
 
-is_some_of : {A : Type 0} (o : Option A) → is_some o ≡ true → (x : A) × (o ≡ Some x)
+pub is_some_of : {A : Type 0} (o : Option A) → is_some o ≡ true → (x : A) × (o ≡ Some x)
 is_some_of None e = absurd (false≢true e)
 is_some_of (Some x) e = (x, refl)
 

@@ -39,6 +39,8 @@ use Rattle.vw_layout.specs.Laws.{IsData}
 use Rattle.vw_layout.specs.Tables.{is_pointer}
 use Rattle.vw_machine.specs.Permitted.{is_pointer as is_address}
 use Rattle.vw_layout.specs.Layout.{IsModule, declared_functions, declared_tables}
+use Rattle.vw_state.specs.Context.{extent_of}
+use Rattle.vw_state.specs.Sites.{word_in, site_word, is_in_entries, may_be_read, site_of}
 use Rattle.vw_machine.specs.declared.world.World.{World}
 use Rattle.vw_machine.specs.declared.choice.Choice.{Choice}
 use Rattle.vw_machine.specs.World.{Range, IsIn, AreApart, IsLaidOut, is_within, stack_range, loaded_range, instance_ranges}
@@ -47,7 +49,6 @@ use Rattle.vw_machine.specs.Module.{Module, declared_module, view_of, segment_ra
 use Rattle.vw_machine.specs.State.{Bytes, Activation}
 use Rattle.vw_machine.specs.Step.{is_in_image, image_number, loads}
 use Rattle.vw_sandbox.specs.Assertions.{Moment}
-use Rattle.vw_sandbox.specs.Tables.{word_in, site_word, may_be_read, extent_of, site_of}
 use Rattle.vw_sandbox.proofs.Instances.{all_of, heap_ends, stack_ends, heap_or_stack, image_low}
 use Rattle.vw_sandbox.proofs.Stating.{load_fits, image_fits}
 
@@ -133,6 +134,11 @@ extents_are m w [] = refl
 extents_are m w (t ∷ ts) =
     ap (λ n. (t.address, n) ∷ map (λ (t : FunctionTable). (t.address, length t.entries)) (map (table_in m w) ts)) (entry_count (m.byte w) t.address t.entries)
     ∙ ap (λ (l : List (ℕ × ℕ)). extent_of t ∷ l) (extents_are m w ts)
+
+-- a byte is one of some tables exactly where it is one of their entries
+pub any_extent : (b : ℕ) (ts : List TableInfo) → list_any (is_in_entries b) (map extent_of ts) ≡ list_any (is_in_table b) ts
+any_extent b [] = refl
+any_extent b (t ∷ ts) = ap (λ x. is_in_table b t || x) (any_extent b ts)
 
 any_cases : (a b : Bool) → (a || b) ≡ true → (a ≡ true) ⊎ (b ≡ true)
 any_cases true b e = inl refl
@@ -297,6 +303,10 @@ module _ (laws : SiteLaws) (file : List ℕ) (is : IsModule file) (headers : hea
   abbrev m : Module
   m = view_of declared
 
+  -- the address and the number of entries of each table
+  abbrev extents : List (ℕ × ℕ)
+  extents = map extent_of (declared_tables file)
+
   abbrev Tabled : TableInfo → Type 0
   Tabled t = Contains (declared_tables file) t
 
@@ -309,19 +319,19 @@ module _ (laws : SiteLaws) (file : List ℕ) (is : IsModule file) (headers : hea
       let bounded = all_of (IsBounded (length file)) (segments_of file) (laws.bounded file headers) d.segment d.listed in
       (d.segment, d.listed, inside.0, omega (arith, inside.1, bounded.part))
 
-  readable_place : (b : ℕ) → may_be_read declared b ≡ true → IsInSegment image b 1
+  readable_place : (b : ℕ) → may_be_read image extents b ≡ true → IsInSegment image b 1
   unfolding readable
   readable_place b e = ⊎_elim
       (λ (r : readable image b 1 ≡ true). of_readable image (laws.images file is) b 1 (both_is _ _ r).0)
-      (λ (r : list_any (is_in_table b) (declared_tables file) ≡ true).
-      let found = any_found _ (declared_tables file) r in
+      (λ (r : list_any (is_in_entries b) extents ≡ true).
+      let found = any_found (is_in_table b) (declared_tables file) (sym (any_extent b (declared_tables file)) ∙ r) in
       let inside = among_is found.0.address (16 * length found.0.entries) b 1 found.2 in
       let placed = table_placed found.0 found.1 in
       (placed.0, placed.1, omega (arith, placed.2, inside.0), omega (arith, placed.3, inside.1)))
       (any_cases _ _ e)
 
   -- the ranges of what the site tells
-  pub is_site : (bounds : List ℕ) → IsBounds bounds → (next : ℕ) → IsSite (site_of declared bounds next)
+  pub is_site : (bounds : List ℕ) → IsBounds bounds → (next : ℕ) → IsSite (site_of image extents bounds next)
   is_site bounds are next = record {
     bounds = are;
     few = let few = laws.few file is in omega (arith, few, length-map (declared_tables file) extent_of);
@@ -597,12 +607,12 @@ module _ (laws : SiteLaws) (file : List ℕ) (is : IsModule file) (headers : hea
               (laws.ranges file e.info e.e is e.listed (contains_got e.info.entries i e.e e.got))
 
       -- a byte that may be read is one of the image, and addresses it below the top
-      pub byte_is : (b : ℕ) → may_be_read declared b ≡ true → IsByte (w.load + b) × (w.load + b < 2 ^ 47)
+      pub byte_is : (b : ℕ) → may_be_read image extents b ≡ true → IsByte (w.load + b) × (w.load + b < 2 ^ 47)
       byte_is b e =
           let t = segment_byte_is b 1 0 (readable_place b e) (lit< tt) in
           (subst IsByte (omega arith) t.0, omega (arith, t.1))
 
-      pub has_image : (bounds : List ℕ) (next : ℕ) → HasImage s (site_of declared bounds next)
+      pub has_image : (bounds : List ℕ) (next : ℕ) → HasImage s (site_of image extents bounds next)
       has_image bounds next = record {
         ends = λ b e. (byte_is b e).1;
         small = λ b e. let l = (byte_is b e).1 in omega (arith, l);
@@ -612,13 +622,14 @@ module _ (laws : SiteLaws) (file : List ℕ) (is : IsModule file) (headers : hea
           among : (start size a : ℕ) → start ≤ a → a + 1 ≤ start + size → is_among start size a 1 ≡ true
           among start size a l u = grind (arith, nat_tests)
 
-          tables : (t : ℕ) (table : FunctionTable) → slice_get s.tables t ≡ Some table → (i j : ℕ) → i < length table.entries → j < 16 → may_be_read declared (table.address + 16 * i + j) ≡ true
+          tables : (t : ℕ) (table : FunctionTable) → slice_get s.tables t ≡ Some table → (i j : ℕ) → i < length table.entries → j < 16 → may_be_read image extents (table.address + 16 * i + j) ≡ true
           tables t table at i j inside small =
               let one = got_mapped (table_in m w) m.tables t table at in
               let count : length table.entries ≡ length one.0.entries = ap (λ (x : FunctionTable). length x.entries) one.2 ∙ entry_count (m.byte w) one.0.address one.0.entries in
               let address : table.address ≡ one.0.address = ap (λ (x : FunctionTable). x.address) one.2 in
               any_second (readable image (table.address + 16 * i + j) 1) _
-              (any_holds (is_in_table (table.address + 16 * i + j)) m.tables one.0 (contains_got m.tables t one.0 one.1)
+              (any_extent (table.address + 16 * i + j) m.tables
+              ∙ any_holds (is_in_table (table.address + 16 * i + j)) m.tables one.0 (contains_got m.tables t one.0 one.1)
               (among one.0.address (16 * length one.0.entries) (table.address + 16 * i + j) (omega (arith, address)) (omega (arith, address, count, inside, small))))
 
       apart_ranges : (r t : Range) → r.from < r.to → t.from < t.to → AreApart r t → (r.to ≤ t.from) ⊎ (t.to ≤ r.from)
@@ -646,7 +657,7 @@ module _ (laws : SiteLaws) (file : List ℕ) (is : IsModule file) (headers : hea
           ⊎_elim (λ (a : w.globals + 4096 ≤ w.stack_low - 8192). inl (omega arith)) (λ (a : w.stack_high ≤ w.globals). inr a) r
 
       module _ (top : Activation) (now : Moment) (tmp : ℕ) where
-        pub is_placed : (bounds : List ℕ) (start next : ℕ) → next ≡ w.load + start → IsPlaced (machine_of m w entered top now tmp) (site_of declared bounds start) next
+        pub is_placed : (bounds : List ℕ) (start next : ℕ) → next ≡ w.load + start → IsPlaced (machine_of m w entered top now tmp) (site_of image extents bounds start) next
         is_placed bounds start next at = record {
           room = laid.room_below_stack;
           ends = stack_ends laid;
@@ -659,7 +670,7 @@ module _ (laws : SiteLaws) (file : List ℕ) (is : IsModule file) (headers : hea
           tables = extents_are m w m.tables;
         }
 
-        pub is_memory : (bounds : List ℕ) (start : ℕ) (choice : Choice) → IsMemory (machine_of m w entered top now tmp) (site_of declared bounds start) (loads m w choice)
+        pub is_memory : (bounds : List ℕ) (start : ℕ) (choice : Choice) → IsMemory (machine_of m w entered top now tmp) (site_of image extents bounds start) (loads m w choice)
         is_memory bounds start choice = record {
           in_stack = stack_loads choice;
           globals = globals_load choice;
@@ -670,7 +681,7 @@ module _ (laws : SiteLaws) (file : List ℕ) (is : IsModule file) (headers : hea
           pointer = pointer;
         }
           where
-            jump : (bytes : Bytes) (a i : ℕ) → AreReadable (site_of declared bounds start) (a + 4 * i) 4
+            jump : (bytes : Bytes) (a i : ℕ) → AreReadable (site_of image extents bounds start) (a + 4 * i) 4
                 → extended true W32 W64 (low W32 (loads m w choice bytes ((w.load + a + 4 * i) % 2 ^ 64) 4)) ≡ offset_at s (a + 4 * i)
             jump bytes a i r =
                 let is_load : loads m w choice bytes ((w.load + a + 4 * i) % 2 ^ 64) 4 ≡ load (m.byte w) (a + 4 * i) 4 =

@@ -10,6 +10,7 @@ use Rattle.vw_values.specs.declared.value.Value.{Value}
 use Rattle.vw_values.specs.declared.value.Value.TheVariants.{Any, Num, Const, Below, Low, Both, HeapBase, HeapAddr, Globals, Entry, Image, Index16, EntryPtr, EntryTyped, TagOf, TableFn, JumpOff, JumpDest}
 use Rattle.vw_domain.specs.Abstract.{Abstract}
 use Rattle.vw_domain.specs.Changes.{forget}
+use Rattle.vw_domain.specs.FormRanges.{IsStateForm}
 use Rattle.vw_domain.specs.Memory.{value_or, word_value}
 use Rattle.vw_domain.specs.Sites.{Word as SiteWord, Plain, Based, Other}
 use Rattle.vw_image.specs.Image.{Contents, image_byte, memory_byte}
@@ -18,9 +19,10 @@ use Rattle.vw_image.specs.Stubs.{spells, in_executable, stands_at, slot_behind, 
 use Rattle.vw_image.specs.Words.{word_at}
 use Rattle.vw_layout.specs.declared.functions.Function.{Function}
 use Rattle.vw_layout.specs.declared.layout.Module.{Module as Declared}
+use Rattle.vw_state.specs.Sites.{site_word}
 use Rattle.vw_machine.specs.declared.world.World.{World}
 use Rattle.vw_machine.specs.Module.{view_of}
-use Rattle.vw_sandbox.specs.Tables.{Tables, Bounds, Follows, IsSafeAt, AreSafe, site_word, state_behind}
+use Rattle.vw_sandbox.specs.Tables.{Tables, Bounds, Follows, IsSafeAt, AreSafe, state_behind}
 use Rattle.vw_sandbox.proofs.StubReads.{through, ReadsOnly, ReadsNone, jump_only, endbr_only, bound_none}
 
 abbrev is_dest : Value → Bool
@@ -153,30 +155,31 @@ module _ (only : ReadsOnly) (none : ReadsNone) (declared : Declared) (bounds : B
   no_dest (Based a) e = false≢true e
   no_dest Other e = false≢true e
 
-  no_jump : (at : ℕ) (st : Abstract) (h : IsSafeAt declared bounds tables f at st) (d : ℤ) → h.i ≡ through d → ⊥
-  no_jump at st h d e =
+  no_jump : (at : ℕ) (st : Abstract) (h : IsSafeAt declared bounds tables f at st) → IsStateForm (bounds f) st → (d : ℤ) → h.i ≡ through d → ⊥
+  no_jump at st h form d e =
       let P : Insn → Type 0 = λ i. Follows declared bounds tables f (at + h.len) (state_behind declared bounds tables f at i h.len st) (flow_of i) in
-      let k = subst P e h.follows in
+      let k = subst P e (h.follows form) in
       no_dest (site_word declared.image _ 8) (ap is_dest k.2)
 
-  jumps_at : (at : ℕ) (st : Abstract) (h : IsSafeAt declared bounds tables f at st) → at_place (f.entry + at) ≡ 0xFF → at_place (f.entry + at + 1) ≡ 0x25 → ⊥
-  jumps_at at st h one two =
+  jumps_at : (at : ℕ) (st : Abstract) (h : IsSafeAt declared bounds tables f at st) → IsStateForm (bounds f) st → at_place (f.entry + at) ≡ 0xFF → at_place (f.entry + at + 1) ≡ 0x25 → ⊥
+  jumps_at at st h form one two =
       let is = jump_only at_place (f.entry + at) h.len h.i (h.stands.spelled w) only one two in
-      no_jump at st h is.0 is.1
+      no_jump at st h form is.0 is.1
 
-  -- behind ENDBR64 there is a point with a state
-  abbrev Behind : Type 0
-  Behind = (st : Abstract) × IsSafeAt declared bounds tables f 4 st
+  -- a point with a state
+  abbrev Known : ℕ → Type 0
+  Known at = (st : Abstract) × IsSafeAt declared bounds tables f at st × IsStateForm (bounds f) st
 
-  behind : (st : Abstract) (h : IsSafeAt declared bounds tables f 0 st) → h.i ≡ insn.Endbr → h.len ≡ 4 → Behind
-  behind st h e four =
+  -- behind ENDBR64 there is one
+  behind : (st : Abstract) (h : IsSafeAt declared bounds tables f 0 st) → IsStateForm (bounds f) st → h.i ≡ insn.Endbr → h.len ≡ 4 → Known 4
+  behind st h form e four =
       let P : Insn → Type 0 = λ i. Follows declared bounds tables f (0 + h.len) (state_behind declared bounds tables f 0 i h.len st) (flow_of i) in
-      let lands = subst P e h.follows in
+      let lands = subst P e (h.follows form) in
       let point : 0 + h.len ≡ 4 = omega (arith, four) in
-      (lands.high, subst (λ at. IsSafeAt declared bounds tables f at lands.high) point (safe.each f (0 + h.len) lands.high listed lands.there))
+      (lands.high, subst (λ at. IsSafeAt declared bounds tables f at lands.high) point (safe.each f (0 + h.len) lands.high listed lands.there), lands.form)
 
-  first : (st : Abstract) × IsSafeAt declared bounds tables f 0 st
-  first = let lands = safe.entered f listed in (lands.high, safe.each f 0 lands.high listed lands.there)
+  first : Known 0
+  first = let lands = safe.entered f listed in (lands.high, safe.each f 0 lands.high listed lands.there, lands.form)
 
   abbrev byte_is : ℕ → ℕ → Type 0
   byte_is a x = at_place a ≡ x
@@ -184,12 +187,12 @@ module _ (only : ReadsOnly) (none : ReadsNone) (declared : Declared) (bounds : B
   moved : (a b x : ℕ) → a ≡ b → byte_is b x → byte_is a x
   moved a b x e h = ap at_place e ∙ h
 
-  marked : (at_place f.entry ≡ 0xF3) × (at_place (f.entry + 1) ≡ 0x0F) × (at_place (f.entry + 1 + 1) ≡ 0x1E) × (at_place (f.entry + 1 + 1 + 1) ≡ 0xFA) → Behind
+  marked : (at_place f.entry ≡ 0xF3) × (at_place (f.entry + 1) ≡ 0x0F) × (at_place (f.entry + 1 + 1) ≡ 0x1E) × (at_place (f.entry + 1 + 1 + 1) ≡ 0xFA) → Known 4
   marked m =
       let h = first.1 in
       let is = endbr_only at_place (f.entry + 0) h.len h.i (h.stands.spelled w) only (moved (f.entry + 0) f.entry 0xF3 (omega arith) m.0) (moved (f.entry + 0 + 1) (f.entry + 1) 0x0F (omega arith) m.1)
       (moved (f.entry + 0 + 1 + 1) (f.entry + 1 + 1) 0x1E (omega arith) m.2) (moved (f.entry + 0 + 1 + 1 + 1) (f.entry + 1 + 1 + 1) 0xFA (omega arith) m.3) in
-      behind first.0 h is.0 is.1
+      behind first.0 h first.2 is.0 is.1
 
   pub no_stub_there : (stub : Stub) → stub_at declared.image f.entry ≡ Some stub → ⊥
   no_stub_there stub is = by_which (which declared.image f.entry stub is)
@@ -197,11 +200,11 @@ module _ (only : ReadsOnly) (none : ReadsNone) (declared : Declared) (bounds : B
       by_which : (stands_at declared.image.bytes declared.image.segments f.entry jump_bytes ≡ true) ⊎ ((stands_at declared.image.bytes declared.image.segments f.entry marked_bytes ≡ true) ⊎ (stands_at declared.image.bytes declared.image.segments f.entry bound_bytes ≡ true)) → ⊥
       by_which (inl h) =
           let t = jump_there declared.image f.entry w.load (slice_index w.hosts) settled h in
-          jumps_at 0 first.0 first.1 (moved (f.entry + 0) f.entry 0xFF (omega arith) t.0) (moved (f.entry + 0 + 1) (f.entry + 1) 0x25 (omega arith) t.1)
+          jumps_at 0 first.0 first.1 first.2 (moved (f.entry + 0) f.entry 0xFF (omega arith) t.0) (moved (f.entry + 0 + 1) (f.entry + 1) 0x25 (omega arith) t.1)
       by_which (inr (inl h)) =
           let t = marked_there declared.image f.entry w.load (slice_index w.hosts) settled h in
           let b = marked t.0 in
-          jumps_at 4 b.0 b.1 (moved (f.entry + 4) (f.entry + 1 + 1 + 1 + 1) 0xFF (omega arith) t.1) (moved (f.entry + 4 + 1) (f.entry + 1 + 1 + 1 + 1 + 1) 0x25 (omega arith) t.2)
+          jumps_at 4 b.0 b.1 b.2 (moved (f.entry + 4) (f.entry + 1 + 1 + 1 + 1) 0xFF (omega arith) t.1) (moved (f.entry + 4 + 1) (f.entry + 1 + 1 + 1 + 1 + 1) 0x25 (omega arith) t.2)
       by_which (inr (inr h)) =
           let t = bound_there declared.image f.entry w.load (slice_index w.hosts) settled h in
           let b = marked t.0 in

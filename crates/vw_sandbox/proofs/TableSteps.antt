@@ -47,7 +47,7 @@ use Rattle.vw_domain.specs.Branches.{Rule, rule_at, MayGo, edge_state}
 use Rattle.vw_domain.specs.Calls.{after_call, after_probe}
 use Rattle.vw_domain.specs.Changes.{call, is_kept, is_register}
 use Rattle.vw_domain.specs.Checks.{MayReturn, MayPush, MayPushAt, HasHeapBase}
-use Rattle.vw_domain.specs.FormRanges.{IsForm}
+use Rattle.vw_domain.specs.FormRanges.{IsForm, IsStateForm}
 use Rattle.vw_domain.specs.Operands.{index_of}
 use Rattle.vw_domain.specs.Sites.{Site, Plain, IsSite}
 use Rattle.vw_domain.specs.Soundness.{IsPlaced, IsMemory, HasImage, ReadPermitted, of_heap, of_instance, of_globals, of_image, of_written, of_arguments, WritePermitted, in_heap, in_globals, in_frame, store, after_write, held_of, machine_in}
@@ -58,6 +58,8 @@ use Rattle.vw_image.specs.Image.{image_of}
 use Rattle.vw_layout.specs.declared.functions.Function.{Function}
 use Rattle.vw_layout.specs.declared.layout.Module.{Module as Declared}
 use Rattle.vw_layout.specs.Layout.{IsModule}
+use Rattle.vw_state.specs.Context.{extent_of}
+use Rattle.vw_state.specs.Sites.{site_word, may_be_read, site_of}
 use Rattle.vw_machine.specs.declared.world.World.{World}
 use Rattle.vw_machine.specs.declared.choice.Choice.{Choice}
 use Rattle.vw_machine.specs.declared.event.Event.TheVariants.{Read}
@@ -70,13 +72,13 @@ use Rattle.vw_sandbox.specs.Claims.{IsProbeStub}
 use Rattle.vw_sandbox.specs.Maps.{Map, IsTypedFrom}
 use Rattle.vw_sandbox.specs.Assertions.{Moment, SavesRegisters, IsRunning, IsPushed, Lands as Arrives, Resumes, ResumesProbed, IsBehind, of_callee, of_probe, GoesBy}
 use Rattle.vw_sandbox.specs.Stated.{moment_in, IsRunKept, IsPointStated, AreStated}
-use Rattle.vw_sandbox.specs.Tables.{Tables, Bounds, site_of, site_word, may_be_read, site_at, Lands, IsProbeAt, Calls, EdgeLands, Follows, IsSafeAt, AreSafe, IsMapOf}
+use Rattle.vw_sandbox.specs.Tables.{Tables, Bounds, site_at, Lands, IsProbeAt, Calls, EdgeLands, Follows, IsSafeAt, AreSafe, IsMapOf}
 use Rattle.vw_sandbox.proofs.DomainLaws.{DomainLaws, WritesInFrame}
 use Rattle.vw_sandbox.proofs.StatementRuns.{WordsStay, Ran, ran, touched, marking, Stood}
 use Rattle.vw_sandbox.proofs.InstructionLists.{way_of, way_is, ret_alone, is_call, call_last, WritesNothing, nothing_written, prefix_all, prefix_stores, no_flow, does_then, call_registers}
 use Rattle.vw_sandbox.proofs.Instances.{stack_ends}
 use Rattle.vw_sandbox.proofs.EntryStates.{entry_writes, entry_stands}
-use Rattle.vw_sandbox.proofs.Sites.{SiteLaws, instance_of, machine_of, is_site, is_placed, is_memory, has_image, has_tables, byte_is, plain_bytes, pointer_is, entry_is, contains_got}
+use Rattle.vw_sandbox.proofs.Sites.{SiteLaws, any_extent, instance_of, machine_of, is_site, is_placed, is_memory, has_image, has_tables, byte_is, plain_bytes, pointer_is, entry_is, contains_got}
 use Rattle.vw_sandbox.proofs.Stating.{holds_words}
 use Rattle.vw_sandbox.proofs.Stores.{at_word, whole_address, whole_stored}
 
@@ -197,6 +199,10 @@ some_of : {A : Type 0} (o : Option A) → is_some o ≡ true → (x : A) × (o �
 some_of None e = absurd (false≢true e)
 some_of (Some x) e = (x, refl)
 
+-- the address and the number of entries of each table
+abbrev extents_in : Declared → List (ℕ × ℕ)
+extents_in declared = map extent_of declared.tables
+
 -- ---- what tables assert
 
 module _ (domain : DomainLaws) (words_stay : WordsStay) (laws : SiteLaws) (in_form : (i : Insn) → IsListed i → HasWord i → IsInForm (lifted i))
@@ -212,7 +218,7 @@ module _ (domain : DomainLaws) (words_stay : WordsStay) (laws : SiteLaws) (in_fo
   pub record Asserts (w : World) (f : Function) (point : ℕ) (entered : Registers) (top : Activation) (now : Moment) : Type 0 where
     pub st : Abstract
     pub there : tables f.entry point ≡ Some st
-    pub form : IsForm (bounds f.entry) st
+    pub form : IsStateForm (bounds f) st
     pub stands : (tmp : ℕ) → StandsFor st (machine_of m w entered top now tmp)
 
   module _ (safe : AreSafe declared bounds tables) (is_map : IsMapOf declared bounds tables map)
@@ -227,10 +233,10 @@ module _ (domain : DomainLaws) (words_stay : WordsStay) (laws : SiteLaws) (in_fo
       site next = site_at declared bounds tables f next
 
       site_is : (next : ℕ) → IsSite (site next)
-      site_is next = is_site laws file is headers image_bytes (bounds f.entry) (safe.bounded f listed) (f.entry + next)
+      site_is next = is_site laws file is headers image_bytes (bounds f) (safe.bounded f listed) (f.entry + next)
 
       placed : (top : Activation) (now : Moment) (tmp next at : ℕ) → at ≡ w.load + (f.entry + next) → IsPlaced (machine_of m w entered top now tmp) (site next) at
-      placed top now tmp next at e = is_placed laws file is headers image_bytes w laid hosts_are entered top now tmp (bounds f.entry) (f.entry + next) at e
+      placed top now tmp next at e = is_placed laws file is headers image_bytes w laid hosts_are entered top now tmp (bounds f) (f.entry + next) at e
 
       landed : (st : Abstract) (to : ℕ) → Lands declared bounds tables f st to → WritesInFrame st → (top : Activation) (now : Moment) → WritesItsFrame (machine_of m w entered top now 0)
           → ((tmp : ℕ) → StandsFor st (machine_of m w entered top now tmp)) → Asserts w f to entered top now
@@ -239,7 +245,7 @@ module _ (domain : DomainLaws) (words_stay : WordsStay) (laws : SiteLaws) (in_fo
         there = lands.there;
         form = lands.form;
         stands = λ tmp. let k = stands tmp in
-            (k.0, domain.lower (site 0) (machine_of m w entered top now tmp) (w.load + (f.entry + 0)) st lands.high k.0 (placed top now tmp 0 _ refl) (site_is 0) writes lands.form frame lands.above k.1);
+            (k.0, domain.lower (site 0) (machine_of m w entered top now tmp) (w.load + (f.entry + 0)) st lands.high k.0 (placed top now tmp 0 _ refl) (site_is 0) writes lands.form.form frame lands.above k.1);
       }
 
       -- a point with a state is one of the function, and the map tells so
@@ -256,20 +262,22 @@ module _ (domain : DomainLaws) (words_stay : WordsStay) (laws : SiteLaws) (in_fo
 
     -- ---- what is permitted
 
-    may_read : (entered : Registers) (top : Activation) (now : Moment) (tmp next : ℕ) (members : List ℕ) (a n : ℕ) → ReadPermitted (machine_of m w entered top now tmp) (site_of declared members next) a n → MayRead m w top a n
+    may_read : (entered : Registers) (top : Activation) (now : Moment) (tmp next : ℕ) (members : List ℕ) (a n : ℕ) → ReadPermitted (machine_of m w entered top now tmp) (site_of declared.image (extents_in declared) members next) a n → MayRead m w top a n
     may_read entered top now tmp next members a n (of_heap h) = inl h
     may_read entered top now tmp next members a n (of_instance e k) = inr (inl (omega (arith, laid.room_below_heap), k))
     may_read entered top now tmp next members a n (of_globals h) = inr (inr (inl h))
     may_read entered top now tmp next members a n (of_image b e r) = inr (inr (inr (inl (λ q l u. readable_at q (q - a) (omega arith) (r (q - a) (omega arith))))))
       where
-        readable_at : (q k : ℕ) → q ≡ w.load + (b + k) → may_be_read declared (b + k) ≡ true → IsReadableAt m w q
+        readable_at : (q k : ℕ) → q ≡ w.load + (b + k) → may_be_read declared.image (extents_in declared) (b + k) ≡ true → IsReadableAt m w q
         readable_at q k at may =
             let found = part_of m.image (byte_is laws file is headers image_bytes w laid hosts_are entered (b + k) may).0 in
             record {
               part = found.0;
               of_image = found.1;
               inside = (omega (arith, at, found.2), omega (arith, at, found.3));
-              may_read = subst (λ x. may_be_read declared x ≡ true) (omega (arith, at)) may;
+              may_read =
+                  ap (λ t. m.is_readable (q - w.load) || t) (sym (any_extent (q - w.load) declared.tables))
+                  ∙ subst (λ x. may_be_read declared.image (extents_in declared) x ≡ true) (omega (arith, at)) may;
             }
           where
             part_of : (parts : List Range) → list_any (λ part. is_within (w.load + (b + k)) 1 (loaded_range w part)) parts ≡ true → (part : Range) × Contains parts part × (w.load + part.from ≤ w.load + (b + k)) × (w.load + (b + k) < w.load + part.to)
@@ -329,7 +337,7 @@ module _ (domain : DomainLaws) (words_stay : WordsStay) (laws : SiteLaws) (in_fo
       next_low : next ≤ 2 ^ 47
       next_low = omega (arith, at.stands.inside, code_ends f listed)
 
-      module _ (entered : Registers) (top : Activation) (now : Moment) (running : IsRunning m w f top now) (form : IsForm (bounds f.entry) st) (choice : Choice) (tmp : ℕ) (small : tmp < 2 ^ 64)
+      module _ (entered : Registers) (top : Activation) (now : Moment) (running : IsRunning m w f top now) (form : IsStateForm (bounds f) st) (choice : Choice) (tmp : ℕ) (small : tmp < 2 ^ 64)
           (stands : StandsFor st (machine_of m w entered top now tmp)) where
         abbrev M : Machine
         M = machine_of m w entered top now tmp
@@ -347,10 +355,10 @@ module _ (domain : DomainLaws) (words_stay : WordsStay) (laws : SiteLaws) (in_fo
         placed_here = placed f listed entered top now tmp behind next next_is
 
         image_here : HasImage (instance_of m w entered) here
-        image_here = has_image laws file is headers image_bytes w laid hosts_are entered (bounds f.entry) (f.entry + behind)
+        image_here = has_image laws file is headers image_bytes w laid hosts_are entered (bounds f) (f.entry + behind)
 
         memory_here : IsMemory M here loaded
-        memory_here = is_memory laws file is headers image_bytes w laid hosts_are entered top now tmp (bounds f.entry) (f.entry + behind) choice
+        memory_here = is_memory laws file is headers image_bytes w laid hosts_are entered top now tmp (bounds f) (f.entry + behind) choice
 
         abbrev RanTo : Environment → Type 0
         RanTo mid = Ran domain words_stay here next here_is loaded M placed_here image_here memory_here good end_state mid
@@ -380,7 +388,7 @@ module _ (domain : DomainLaws) (words_stay : WordsStay) (laws : SiteLaws) (in_fo
             let wide = words_stay loaded (store M) next (steps i) good fields first r.0 words running.words.bytes r.1 in
             record {
               mid = r.0;
-              ran_to = ran domain words_stay here next here_is loaded M placed_here image_here memory_here good (steps i) st first r.0 stands.0 fields plain (prefix_stores (steps i) (stmt.Flow (flow_of i) ∷ []) listing.stores) at.passes form words running.words.bytes running.framed.written stands.1 tt refl r.1;
+              ran_to = ran domain words_stay here next here_is loaded M placed_here image_here memory_here good (steps i) st first r.0 stands.0 fields plain (prefix_stores (steps i) (stmt.Flow (flow_of i) ∷ []) listing.stores) (at.passes form) form.form words running.words.bytes running.framed.written stands.1 tt refl r.1;
               words = wide.0;
               fits = wide.1;
               alone = λ e. alone_at (steps i) first r.0 e r.1;
@@ -407,7 +415,7 @@ module _ (domain : DomainLaws) (words_stay : WordsStay) (laws : SiteLaws) (in_fo
             goes : trapped z ≡ false → GoesBy m w map At f point behind entered top (after_writes w top z.writes) now (moment_in z) next k z.transfer
 
           may_reads : (k : Way) → (k ≡ Return → ⊥) → AllByRecursion (λ a. MayDo m w top k (Read a.at a.size)) mid.reads
-          may_reads k plain = all_by _ _ mid.reads (λ a r. do_read top k plain a.at a.size (may_read entered top now tmp (f.entry + behind) (bounds f.entry) a.at a.size r)) ran_to.reads
+          may_reads k plain = all_by _ _ mid.reads (λ a r. do_read top k plain a.at a.size (may_read entered top now tmp (f.entry + behind) (bounds f) a.at a.size r)) ran_to.reads
 
           may_writes : AllByRecursion (λ v. MayWrite m w top v.at v.size) mid.writes
           may_writes = all_by _ _ mid.writes (λ v r. may_write entered top now tmp v.at v.size r) ran_to.writes
@@ -422,10 +430,10 @@ module _ (domain : DomainLaws) (words_stay : WordsStay) (laws : SiteLaws) (in_fo
               (λ (k : Stays). k)
               ran_to.stands
 
-          end_form : IsForm (bounds f.entry) end_state
-          end_form = domain.lists here st (steps i) here_is form (prefix_all IsLifted (steps i) (stmt.Flow (flow_of i) ∷ []) (in_form i at.listed at.word).fields)
+          end_form : IsForm (bounds f) end_state
+          end_form = domain.lists here st (steps i) here_is form.form (prefix_all IsLifted (steps i) (stmt.Flow (flow_of i) ∷ []) (in_form i at.listed at.word).fields)
 
-          finished_form : IsForm (bounds f.entry) (finish end_state)
+          finished_form : IsForm (bounds f) (finish end_state)
           finished_form = domain.end_forms here end_state here_is end_form
 
           -- the machine after the statements, with another number in the register of one instruction
@@ -437,7 +445,7 @@ module _ (domain : DomainLaws) (words_stay : WordsStay) (laws : SiteLaws) (in_fo
 
           finished : (k : Stays) (t : ℕ) → StandsWith (finish end_state) (machine_of m w entered caller (moment_in mid) t) k.1.0
           finished k t =
-              subst (λ (z : Machine). StandsWith (finish end_state) z k.1.0) (sym (moved t)) (domain.ends (bounds f.entry) (marking M mid.writes) end_state mid k.1.0 t end_form k.0 k.1.1)
+              subst (λ (z : Machine). StandsWith (finish end_state) z k.1.0) (sym (moved t)) (domain.ends (bounds f) (marking M mid.writes) end_state mid k.1.0 t end_form k.0 k.1.1)
 
           to_point : (k : Stays) (to goal : ℕ) → Lands declared bounds tables f (finish end_state) to → goal ≡ w.load + f.entry + to → Arrives m w map At f entered caller (moment_in mid) goal
           to_point k to goal lands e = arrives f listed entered (finish end_state) to goal lands e finished_form.written caller (moment_in mid) (frame_after k) (λ t. (k.1.0, finished k t))
@@ -596,7 +604,7 @@ module _ (domain : DomainLaws) (words_stay : WordsStay) (laws : SiteLaws) (in_fo
           abbrev x : ℕ
           x = standing.0
 
-          form_here : IsForm (bounds f.entry) end_state
+          form_here : IsForm (bounds f) end_state
           form_here = end_form mid ran_to words fits
 
           -- the push of a call that passes its checks
@@ -715,7 +723,7 @@ module _ (domain : DomainLaws) (words_stay : WordsStay) (laws : SiteLaws) (in_fo
 
             resumes : Lands declared bounds tables f (after_call end_state) behind → Resumes m w map At f behind entered pushing after_push
             resumes lands later are rsp saves same =
-                landed f listed entered (after_call end_state) behind lands (domain.call_forms (bounds f.entry) end_state is_kept form_here).written pushing later pushing_frame (λ t. (x, stands_later t))
+                landed f listed entered (after_call end_state) behind lands (domain.call_forms (bounds f) end_state is_kept form_here).written pushing later pushing_frame (λ t. (x, stands_later t))
               where
                 same_register : (q : ℕ) → is_kept q ≡ true → later.registers q ≡ mid.registers q
                 same_register q e = ⊎_elim
@@ -726,7 +734,7 @@ module _ (domain : DomainLaws) (words_stay : WordsStay) (laws : SiteLaws) (in_fo
                 stands_later : (t : ℕ) → StandsWith (after_call end_state) (machine_of m w entered pushing later t) x
                 stands_later t =
                     subst (λ o. StandsWith (call end_state is_kept o) (machine_of m w entered pushing later t) x) (sym p.known)
-                    (domain.calls (bounds f.entry) (machine_in M mid) end_state x is_kept p.c p.rsp_at form_here running.framed.written standing.1 p.is_at p.below (omega (arith, low, p.at_push))
+                    (domain.calls (bounds f) (machine_in M mid) end_state x is_kept p.c p.rsp_at form_here running.framed.written standing.1 p.is_at p.below (omega (arith, low, p.at_push))
                     (λ q. if q == 16 then t else later.registers q) later.flags later.bytes pushing.written
                     (λ q e. not_16 q t mid.tmp later.registers (λ g. false≢true (ap is_kept (sym g) ∙ e)) (same_register q e))
                     (λ q l. same q (omega (arith, l, p.low_rsp)) ∙ push_kept q (omega (arith, l, p.at_push)))
@@ -734,7 +742,7 @@ module _ (domain : DomainLaws) (words_stay : WordsStay) (laws : SiteLaws) (in_fo
 
             resumes_probed : Lands declared bounds tables f (after_probe end_state) behind → ResumesProbed m w map At f behind entered pushing after_push
             resumes_probed lands far flags bytes are same =
-                landed f listed entered (after_probe end_state) behind lands (domain.call_forms (bounds f.entry) end_state is_register form_here).written pushing later pushing_frame (λ t. (x, stands_later t))
+                landed f listed entered (after_probe end_state) behind lands (domain.call_forms (bounds f) end_state is_register form_here).written pushing later pushing_frame (λ t. (x, stands_later t))
               where
                 later : Moment
                 later = record { registers = put in_callee 4 (in_callee 4 + 8); flags = flags; bytes = bytes }
@@ -748,7 +756,7 @@ module _ (domain : DomainLaws) (words_stay : WordsStay) (laws : SiteLaws) (in_fo
 
                 stands_later : (t : ℕ) → StandsWith (after_probe end_state) (machine_of m w entered pushing later t) x
                 stands_later t =
-                    domain.probes (bounds f.entry) (machine_in M mid) end_state x p.c p.rsp_at form_here running.framed.written standing.1 p.known p.is_at p.below (omega (arith, low, p.at_push)) (omega (arith, far, p.low_rsp))
+                    domain.probes (bounds f) (machine_in M mid) end_state x p.c p.rsp_at form_here running.framed.written standing.1 p.known p.is_at p.below (omega (arith, low, p.at_push)) (omega (arith, far, p.low_rsp))
                     (λ q. if q == 16 then t else later.registers q) flags bytes pushing.written
                     (λ q e. not_16 q t mid.tmp later.registers (λ g. false≢true (ap is_register (sym g) ∙ e)) (same_register q))
                     (λ q l. same q (omega (arith, l, p.low_rsp)) ∙ push_kept q (omega (arith, l, p.at_push)))
@@ -849,7 +857,7 @@ module _ (domain : DomainLaws) (words_stay : WordsStay) (laws : SiteLaws) (in_fo
         owed : (e : Environment) (r : Run e) → Owed r.mid r.ran_to r.words r.fits (way i) e
         owed e r =
             subst (λ (k : Way). Owed r.mid r.ran_to r.words r.fits k e) (sym (way_is i))
-            (subst (λ (z : Environment). Owed r.mid r.ran_to r.words r.fits (way_of (flow_of i)) z) r.last (by_flow (flow_of i) refl at.follows))
+            (subst (λ (z : Environment). Owed r.mid r.ran_to r.words r.fits (way_of (flow_of i)) z) r.last (by_flow (flow_of i) refl (at.follows form)))
           where
             by_flow : (k : Flow) → flow_of i ≡ k → Follows declared bounds tables f behind end_state k → Owed r.mid r.ran_to r.words r.fits (way_of k) (flows loaded (store M) next k r.mid)
             by_flow flow.Next e follows = next_step r.mid r.ran_to r.words r.fits follows
@@ -887,7 +895,7 @@ module _ (domain : DomainLaws) (words_stay : WordsStay) (laws : SiteLaws) (in_fo
         word = at.word;
         each = λ entered top now running holds choice tmp small e words fits d.
             let same : holds.st ≡ st = some_is (sym holds.there ∙ there) in
-            run_kept entered top now running (subst (IsForm (bounds f.entry)) same holds.form) choice tmp small (subst (λ (s : Abstract). StandsFor s (machine_of m w entered top now tmp)) same (holds.stands tmp)) e d;
+            run_kept entered top now running (subst (IsStateForm (bounds f)) same holds.form) choice tmp small (subst (λ (s : Abstract). StandsFor s (machine_of m w entered top now tmp)) same (holds.stands tmp)) e d;
       }
 
     -- safe tables are kept

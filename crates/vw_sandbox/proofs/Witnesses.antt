@@ -14,7 +14,6 @@ use Rattle.vw_rows.specs.Spelling.{Spells}
 use Rattle.vw_layout.specs.declared.functions.Function.{Function}
 use Rattle.vw_layout.specs.Layout.{IsModule}
 use Rattle.vw_state.specs.Code.{NothingAt}
-use Rattle.vw_state.specs.declared.tables.FunctionTable.{FunctionTable}
 use Rattle.vw_machine.specs.declared.world.World.{World}
 use Rattle.vw_machine.specs.declared.choice.Choice.{Choice}
 use Rattle.vw_machine.specs.declared.event.Event.TheVariants.{Write}
@@ -29,11 +28,10 @@ use Rattle.vw_machine.specs.Entered.{IsInitial}
 use Rattle.vw_insn.specs.Effect.{Way, Ordinary, Return, Direct, Indirect, way}
 use Rattle.vw_sandbox.specs.Runs.{Reaches, begins}
 use Rattle.vw_sandbox.specs.Claims.{IsKept, ReturnsKept, KeepsRegisters}
-use Rattle.vw_sandbox.specs.Sandboxed.{IsSandboxed}
+use Rattle.vw_sandbox.specs.Maps.{Map, IsSandboxedBy}
 use Rattle.vw_sandbox.proofs.Instances.{all_of}
 use Rattle.vw_sandbox.proofs.Choices.{some_choice}
-use Rattle.vw_sandbox.proofs.Steps.{HoldsCode, code_bytes}
-use Rattle.vw_sandbox.proofs.Modules.{headers_hold}
+use Rattle.vw_sandbox.proofs.Modules.{HoldsCode, code_bytes, headers_hold}
 
 -- addresses of the host, sixteen bytes from one to the next
 hosts : ℕ → List ℕ
@@ -199,8 +197,8 @@ nowhere_at_entry m w f code held one_function nothing top rest rip at of_top =
           nothing i len (record { inside = inside; spelled = subst (λ (bytes : List ℕ). Spells bytes i) (ap (λ (a : ℕ). bytes_from (m.byte w) a len) offset ∙ code_bytes held w 0 len inside) spelled.spelled })),
     )
 
-pub not_sandboxed : (m : Module) (tables : List FunctionTable) (f : Function) (code : List ℕ) → IsLimited m → HoldsCode m f code → ((g : Function) → Contains m.functions g → g.entry ≡ f.entry → g ≡ f) → NothingAt code 0 → IsSandboxed m tables → ⊥
-not_sandboxed m tables f code limited held one_function nothing sandboxed =
+pub not_sandboxed : (m : Module) (map : Map) (f : Function) (code : List ℕ) → IsLimited m → HoldsCode m f code → ((g : Function) → Contains m.functions g → g.entry ≡ f.entry → g ≡ f) → NothingAt code 0 → IsSandboxedBy m map → ⊥
+not_sandboxed m map f code limited held one_function nothing sandboxed =
     let some = begun m limited in
     let w = some.0 in
     let first = some.2 f held.listed in
@@ -254,11 +252,11 @@ write_here m w top Host a n may = may
 write_here m w top Probe a n may = may
 write_here m w top Nowhere a n may = absurd may
 
-pub writes_in : (m : Module) (tables : List FunctionTable) (w : World) (f : Function) (first s : State) (here : Here) (choice : Choice) (top : Activation) (rest : List Activation) (a n : ℕ)
-    → IsSandboxed m tables → IsLaidOut m.image m.imports w → Contains m.functions f → IsInitial w f first → Reaches m w first s → StandsAt m w s.rip s.active here → s.active ≡ top ∷ rest
+pub writes_in : (m : Module) (map : Map) (w : World) (f : Function) (first s : State) (here : Here) (choice : Choice) (top : Activation) (rest : List Activation) (a n : ℕ)
+    → IsSandboxedBy m map → IsLaidOut m.image m.imports w → Contains m.functions f → IsInitial w f first → Reaches m w first s → StandsAt m w s.rip s.active here → s.active ≡ top ∷ rest
     → Contains (events m w s here choice) (Write a n)
     → IsWithin a n (heap_range w) ⊎ IsWithin a n (globals_range w) ⊎ ((w.stack_low - 8192 ≤ a) × (a + n ≤ top.rsp0))
-writes_in m tables w f first s here choice top rest a n sandboxed laid listed initial run stands active among =
+writes_in m map w f first s here choice top rest a n sandboxed laid listed initial run stands active among =
     let all = sandboxed.permitted w laid f listed first initial s run here stands choice in
     let may : Permitted m w s here (Write a n) = all_of (Permitted m w s here) (events m w s here choice) all (Write a n) among in
     write_here m w top here a n (subst (λ (all : List Activation). PermittedOf m w all here (Write a n)) active may)

@@ -82,7 +82,12 @@ module _ (m : Module) (w : World) (map : Map) where
   abbrev pub KeepsToMap : State → Type 0
   KeepsToMap s = EachStep m w (λ here choice. EachEvent m w (StepKeepsToMap s.rip s.active here) s here choice) s
 
--- A module stays in its sandbox, and keeps to tables of which the map tells: what `IsSandboxed` says, over a map.
+-- A module stays in its sandbox, and keeps to the tables of which the map tells. For every load address and instance, every
+-- declared function that the host enters, and every number of steps under any choices: each event is permitted; each
+-- transfer inside a function, and each call through a register or memory, keeps to the tables; each call but that of the
+-- function that probes the stack is made with the heap's base in rdi; and a run that returns does so with rsp 8 above that
+-- at its entry and the callee-saved registers as they were. At each state of a run something is known to stand at rip, or
+-- that nothing does, so that each of these tells of some step.
 pub record IsSandboxedBy (m : Module) (map : Map) : Type 0 where
   pub steps : OfRuns m (λ w entered s. HasStep m w s)
   pub permitted : OfRuns m (λ w entered s. IsPermitted m w s)

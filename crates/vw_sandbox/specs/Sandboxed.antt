@@ -3,7 +3,6 @@ use Rattle.std.specs.Prelude.{ℕ, List, [], ◌∷◌, Contains}
 use Rattle.vw_insn.specs.Words.{Registers}
 use Rattle.vw_layout.specs.declared.functions.Function.{Function}
 use Rattle.vw_layout.specs.Layout.{IsModule}
-use Rattle.vw_state.specs.declared.tables.FunctionTable.{FunctionTable}
 use Rattle.vw_state.specs.declared.tables.Tables.{Tables}
 use Rattle.vw_checks.specs.Modules.{AreSafe, AreLeast}
 use Rattle.vw_machine.specs.declared.world.World.{World}
@@ -15,20 +14,9 @@ use Rattle.vw_machine.specs.Standing.{Here, StandsAt}
 use Rattle.vw_machine.specs.Step.{Ending, Went, Returned, Trapped, Stuck, step}
 use Rattle.vw_machine.specs.Permitted.{Permitted}
 use Rattle.vw_machine.specs.Entered.{IsInitial}
-use Rattle.vw_sandbox.specs.Runs.{OfRuns}
-use Rattle.vw_sandbox.specs.Claims.{IsKept, StepKeepsTo, StepPassesHeap, EachEvent, HasStep, IsPermitted, KeepsToTables, PassesHeap, KeepsRegisters}
-
--- For every load address and instance, every declared function that the host enters, and every number of steps under any
--- choices: each event is permitted; each transfer inside a function, and each call through a register or memory, keeps to
--- the tables; each call but that of the function that probes the stack is made with the heap's base in rdi; and a run that
--- returns does so with rsp 8 above that at its entry and the callee-saved registers as they were. At each state of a run
--- something is known to stand at rip, or that nothing does, so that each of these tells of some step.
-pub record IsSandboxed (m : Module) (tables : List FunctionTable) : Type 0 where
-  pub steps : OfRuns m (λ w entered s. HasStep m w s)
-  pub permitted : OfRuns m (λ w entered s. IsPermitted m w s)
-  pub keeps_to_tables : OfRuns m (λ w entered s. KeepsToTables m w tables s)
-  pub passes_heap : OfRuns m (λ w entered s. PassesHeap m w s)
-  pub keeps_registers : OfRuns m (λ w entered s. KeepsRegisters m w entered s)
+use Rattle.vw_sandbox.specs.Claims.{IsKept, StepPassesHeap, EachEvent}
+use Rattle.vw_sandbox.specs.Maps.{Map, StepKeepsToMap, IsSandboxedBy}
+use Rattle.vw_sandbox.specs.MapOf.{map_of}
 
 -- The file is a module that stays in its sandbox and keeps to its least tables, which are safe.
 pub record IsSandboxedFile (file : List ℕ) : Type 0 where
@@ -36,7 +24,7 @@ pub record IsSandboxedFile (file : List ℕ) : Type 0 where
   pub tables : Tables
   pub least : AreLeast (declared_module file) tables
   pub are_safe : AreSafe (declared_module file) tables
-  pub sandboxed : IsSandboxed (module_of file) tables.functions
+  pub sandboxed : IsSandboxedBy (module_of file) (map_of (declared_module file) tables)
 
 -- ---- the same by lists of choices
 
@@ -47,11 +35,11 @@ Onward entered Rest (Returned s) = IsKept entered s.registers
 Onward entered Rest Trapped = Unit {0}
 Onward entered Rest Stuck = ⊥
 
-module _ (m : Module) (w : World) (tables : List FunctionTable) (entered : Registers) where
+module _ (m : Module) (w : World) (map : Map) (entered : Registers) where
   -- A step keeps to the sandbox, and the run goes on so, or it traps, or it returns as it should.
   pub record IsSafeStep (Rest : State → Type 0) (s : State) (here : Here) (choice : Choice) : Type 0 where
     pub permitted : EachEvent m w (Permitted m w s here) s here choice
-    pub keeps_to_tables : EachEvent m w (StepKeepsTo m w tables s.active here) s here choice
+    pub keeps_to_map : EachEvent m w (StepKeepsToMap m w map s.rip s.active here) s here choice
     pub passes_heap : EachEvent m w (StepPassesHeap m w s.registers here) s here choice
     pub onward : Onward entered Rest (step m w s here choice)
 
@@ -61,7 +49,7 @@ module _ (m : Module) (w : World) (tables : List FunctionTable) (entered : Regis
   StaysSafe (choice ∷ choices) s = (here : Here) × StandsAt m w s.rip s.active here × IsSafeStep (StaysSafe choices) s here choice
 
 -- Under every list of choices every run stays in the sandbox.
-abbrev pub StaysSandboxed : Module → List FunctionTable → Type 0
-StaysSandboxed m tables =
+abbrev pub StaysSandboxed : Module → Map → Type 0
+StaysSandboxed m map =
     (w : World) → IsLaidOut m.image m.imports w → (f : Function) → Contains m.functions f → (first : State) → IsInitial w f first
-    → (choices : List Choice) → StaysSafe m w tables first.registers choices first
+    → (choices : List Choice) → StaysSafe m w map first.registers choices first

@@ -1,7 +1,6 @@
 -- Tables of abstract states of the points of functions, and when they are safe: no check fails at a point that has a
 -- state, and what control carries along each edge lands in the table.
-use Rattle.std.specs.Prelude.{◌≡◌, ℕ, ◌+◌, ◌*◌, ◌%◌, ◌^◌, ◌<◌, ◌≤◌, ◌⊎◌, ◌==◌, ◌||◌, pos, ◌+ℤ◌, true, false, is_some, if◌then◌else◌, List, map, length, Option, Some, Contains, Bool}
-use Rattle.std.specs.List.{list_any}
+use Rattle.std.specs.Prelude.{◌≡◌, ℕ, ◌+◌, ◌*◌, ◌%◌, ◌^◌, ◌<◌, ◌≤◌, ◌⊎◌, pos, ◌+ℤ◌, true, false, is_some, List, map, Option, Some, Contains}
 use Rattle.vw_bits.specs.Words.{sign_extended}
 use Rattle.vw_insn.specs.declared.registers.Width.{Width}
 use Rattle.vw_insn.specs.declared.instruction.Insn.{Insn}
@@ -20,64 +19,28 @@ use Rattle.vw_domain.specs.Addresses.{value_of}
 use Rattle.vw_domain.specs.Branches.{Rule, rule_at, MayGo, edge_state}
 use Rattle.vw_domain.specs.Calls.{after_call, after_probe}
 use Rattle.vw_domain.specs.Checks.{PassesAll, MayReturn, MayPush, HasHeapBase}
-use Rattle.vw_domain.specs.FormRanges.{IsForm}
+use Rattle.vw_domain.specs.FormRanges.{IsStateForm}
 use Rattle.vw_domain.specs.Operands.{index_of}
-use Rattle.vw_domain.specs.Sites.{Site, Word as SiteWord, Plain, Based, Other}
+use Rattle.vw_domain.specs.Sites.{Site, Plain}
 use Rattle.vw_domain.specs.State.{entry_state}
 use Rattle.vw_domain.specs.Statements.{applies, finish}
-use Rattle.vw_image.specs.declared.word.Word.{Word}
-use Rattle.vw_image.specs.declared.word.Word.TheVariants as word
 use Rattle.vw_image.specs.declared.stub.Stub.{Stub}
 use Rattle.vw_image.specs.declared.stub.StubTo.TheVariants.{Import}
-use Rattle.vw_image.specs.Image.{Contents}
-use Rattle.vw_image.specs.Words.{word_at, readable}
 use Rattle.vw_layout.specs.declared.functions.Function.{Function}
-use Rattle.vw_layout.specs.declared.tables.TableInfo.{TableInfo}
 use Rattle.vw_layout.specs.declared.layout.Module.{Module as Declared}
+use Rattle.vw_state.specs.Context.{extent_of}
+use Rattle.vw_state.specs.Sites.{site_word, site_of}
 use Rattle.vw_machine.specs.declared.world.World.{World}
-use Rattle.vw_machine.specs.Module.{Module, bytes_from, is_in_table, view_of}
+use Rattle.vw_machine.specs.Module.{Module, bytes_from, view_of}
 use Rattle.vw_sandbox.specs.Maps.{Map}
-
--- ---- what the equations of a function read of its module
-
--- what a word of the image holds in every instance; that of an import is another one in each
-abbrev pub word_in : Word → SiteWord
-word_in (word.Plain number) = Plain number
-word_in (word.Based address) = Based (address % 2 ^ 64)
-word_in (word.Bound number) = Other
-word_in word.Mixed = Other
-word_in word.Outside = Other
-
--- words have four or eight bytes
-abbrev pub site_word : Contents → ℕ → ℕ → SiteWord
-site_word image a n = if (n == 4) || (n == 8) then word_in (word_at image a n) else Other
-
--- the byte at an address may be read by instructions: it is readable and never an import's, or in a table
-abbrev pub may_be_read : Declared → ℕ → Bool
-may_be_read declared a = readable declared.image a 1 || list_any (is_in_table a) declared.tables
-
-abbrev pub extent_of : TableInfo → ℕ × ℕ
-extent_of t = (t.address, length t.entries)
-
--- of a function whose values have these bounds, where the next instruction is at a place
-abbrev pub site_of : Declared → List ℕ → ℕ → Site
-site_of declared bounds next = record {
-  next = next;
-  bounds = bounds;
-  tables = map extent_of declared.tables;
-  word_at = site_word declared.image;
-  is_readable = may_be_read declared;
-}
-
--- ---- tables
 
 -- the state of each point of each function, by the function's entry and the point's offset from there
 abbrev pub Tables : Type 0
 Tables = ℕ → ℕ → Option Abstract
 
--- the bounds that values of a function may have, by its entry
+-- the bounds that values of each function may have
 abbrev pub Bounds : Type 0
-Bounds = ℕ → List ℕ
+Bounds = Function → List ℕ
 
 module _ (declared : Declared) (bounds : Bounds) (tables : Tables) where
   abbrev pub view : Module
@@ -85,15 +48,15 @@ module _ (declared : Declared) (bounds : Bounds) (tables : Tables) where
 
   -- where the next instruction of the function is at a point
   abbrev pub site_at : Function → ℕ → Site
-  site_at f next = site_of declared (bounds f.entry) (f.entry + next)
+  site_at f next = site_of declared.image (map extent_of declared.tables) (bounds f) (f.entry + next)
 
-  -- A state that comes to a point of the function lands there: the table has a state above it, in its ranges and with
-  -- its bounds among the function's.
+  -- A state that comes to a point of the function lands there: the table has a form above it, which is that of a state
+  -- with its bounds among the function's.
   pub record Lands (f : Function) (st : Abstract) (to : ℕ) : Type 0 where
     pub high : Abstract
     pub there : tables f.entry to ≡ Some high
     pub above : IsBelow st high
-    pub form : IsForm (bounds f.entry) high
+    pub form : IsStateForm (bounds f) high
 
   -- the stub of the import that probes the stack stands at a place
   pub record IsProbeAt (place : ℕ) : Type 0 where
@@ -149,20 +112,21 @@ module _ (declared : Declared) (bounds : Bounds) (tables : Tables) where
     Follows flow.Ret = MayReturn st
     Follows flow.Stop = Unit {0}
 
-  -- an instruction stands at a point with this state, no check fails there, and each edge lands
+  -- An instruction stands at a point with this form; and where this is that of a state, no check fails there, and each
+  -- edge lands.
   pub record IsSafeAt (f : Function) (at : ℕ) (st : Abstract) : Type 0 where
     pub i : Insn
     pub len : ℕ
     pub stands : IsSpelled f at i len
     pub listed : IsListed i
     pub word : HasWord i
-    pub passes : PassesAll (site_at f (at + len)) st (steps i)
-    pub follows : Follows f (at + len) (state_behind f at i len st) (flow_of i)
+    pub passes : IsStateForm (bounds f) st → PassesAll (site_at f (at + len)) st (steps i)
+    pub follows : IsStateForm (bounds f) st → Follows f (at + len) (state_behind f at i len st) (flow_of i)
 
   -- Tables are safe: each point that has a state is, so that no point but one in the function has one; and the state at
   -- a function's entry lands at its first point.
   pub record AreSafe : Type 0 where
-    pub bounded : (f : Function) → Contains declared.functions f → IsBounds (bounds f.entry)
+    pub bounded : (f : Function) → Contains declared.functions f → IsBounds (bounds f)
     pub entered : (f : Function) → Contains declared.functions f → Lands f (abstract_of entry_state) 0
     pub each : (f : Function) (at : ℕ) (st : Abstract) → Contains declared.functions f → tables f.entry at ≡ Some st → IsSafeAt f at st
 

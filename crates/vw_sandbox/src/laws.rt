@@ -1,8 +1,7 @@
-//! Facts about the definitions, each the contract of a function that does nothing. The last is the theorem on safe code;
-//! the others show that the definitions refuse what they are meant to refuse, and that what they say of every run speaks
-//! of some.
+//! Facts about the definitions, each the contract of a function that does nothing: they show that the definitions refuse
+//! what they are meant to refuse, that what they say of every run speaks of some, and by what rules it is shown.
 
-ghost use Rattle.std.specs.Prelude.{◌≡◌, ◌≢◌, ◌⊎◌, ◌↔◌, ℕ, ◌+◌, ◌-◌, ◌≤◌, List, [], ◌∷◌, Contains};
+ghost use Rattle.std.specs.Prelude.{◌≡◌, ◌≢◌, ◌⊎◌, ◌↔◌, true, ℕ, ◌+◌, ◌-◌, ◌≤◌, List, [], ◌∷◌, Contains};
 ghost use Rattle.vw_image.specs.Image.{image_of};
 ghost use Rattle.vw_insn.specs.Effect.{Ordinary};
 ghost use Rattle.vw_insn.specs.Words.{Registers};
@@ -11,27 +10,23 @@ ghost use Rattle.vw_layout.specs.declared.functions.Function.{Function};
 ghost use Rattle.vw_rows.specs.Numbers.{IsBytes};
 ghost use Rattle.vw_rows.specs.Spelling.{Spells};
 ghost use Rattle.vw_state.specs.Code.{code_at, NothingAt};
-ghost use Rattle.vw_state.specs.declared.tables.FunctionTable.{FunctionTable};
-ghost use Rattle.vw_state.specs.declared.tables.Tables.{Tables};
-ghost use Rattle.vw_checks.specs.Modules.{AreSafe};
 ghost use Rattle.vw_machine.specs.declared.world.World.{World};
 ghost use Rattle.vw_machine.specs.declared.choice.Choice.{Choice};
 ghost use Rattle.vw_machine.specs.declared.event.Event.TheVariants.{Write, Goto};
 ghost use Rattle.vw_machine.specs.World.{IsLaidOut, IsWithin, heap_range, globals_range};
-ghost use Rattle.vw_machine.specs.Module.{Module, bytes_from, declared_module, module_of};
+ghost use Rattle.vw_machine.specs.Module.{Module, bytes_from, module_of};
 ghost use Rattle.vw_machine.specs.State.{Activation, State};
 ghost use Rattle.vw_machine.specs.Standing.{Here, IsOf, StandsAt};
 ghost use Rattle.vw_machine.specs.Step.{Went, Returned, step};
 ghost use Rattle.vw_machine.specs.Events.{events};
 ghost use Rattle.vw_machine.specs.Entered.{IsInitial};
 ghost use Rattle.vw_sandbox.specs.Runs.{Reaches, RunsTo};
-ghost use Rattle.vw_sandbox.specs.Claims.{HasState, InsnKeepsTo, KeepsRegisters};
-ghost use Rattle.vw_sandbox.specs.Sandboxed.{IsSandboxed, StaysSandboxed};
-ghost use Rattle.vw_sandbox.specs.Maps.{Map, IsSandboxedBy, entries};
+ghost use Rattle.vw_sandbox.specs.Claims.{KeepsRegisters};
+ghost use Rattle.vw_sandbox.specs.Sandboxed.{StaysSandboxed};
+ghost use Rattle.vw_sandbox.specs.Maps.{Map, InsnKeepsToMap, IsSandboxedBy, entries};
 ghost use Rattle.vw_sandbox.specs.Assertions.{Moment, AreKept};
 ghost use Rattle.vw_sandbox.specs.Stated.{AreStated};
 
-use vw_checks::passing_code_is_covered;
 use vw_image::{
     code_is_settled, file_bytes_are_memory, segments_are_bounded, words_are_numbered, words_spell,
 };
@@ -42,7 +37,7 @@ use vw_layout::{
 };
 use vw_lift::{effect_is_a_run, lists_are_in_form};
 use vw_machine::one_thing_stands;
-use vw_state::{code_has_its_size, edges_are_post};
+use vw_state::code_has_its_size;
 use vw_stmt::words_stay;
 
 /// For each module there is an instance that is laid out well, and for each of its functions a state in which the
@@ -78,8 +73,7 @@ pub fn reaches_by_choices()
 
 /// A module is sandboxed exactly where under every list of choices, one for each step, every run stays in the sandbox.
 pub fn sandboxed_by_choices()
-    ensures { (m : Module) (tables : List FunctionTable)
-        → (IsSandboxed m tables ↔ StaysSandboxed m tables) }
+    ensures { (m : Module) (map : Map) → (IsSandboxedBy m map ↔ StaysSandboxed m map) }
 {
     one_thing_stands();
 }
@@ -87,10 +81,10 @@ pub fn sandboxed_by_choices()
 /// A transfer keeps to no tables whose points are all elsewhere: so not to tables that give the function no
 /// point, nor to an address between two points.
 pub fn transfers_keep_to_points()
-    ensures { (m : Module) (w : World) (tables : List FunctionTable) (top : Activation) (to : ℕ)
-        → ((f : Function) (point : ℕ) → IsOf m w top f → HasState tables f point
+    ensures { (m : Module) (w : World) (map : Map) (top : Activation) (rip to : ℕ)
+        → ((f : Function) (point : ℕ) → IsOf m w top f → map.is_point f.entry point ≡ true
         → to ≢ w.load + f.entry + point)
-        → InsnKeepsTo m w tables top Ordinary (Goto to) → ⊥ }
+        → InsnKeepsToMap m w map top rip Ordinary (Goto to) → ⊥ }
 {}
 
 /// A step that returns to the host with rsp elsewhere than 8 above that at the entry, or with another rbx, rbp or r12 to
@@ -110,9 +104,9 @@ pub fn wrong_returns_are_refused()
 /// What a run of a sandboxed module writes lies in the heap's reservation, in the globals, or from 8,192 bytes below the
 /// stack up to where the return address of the activation lies.
 pub fn writes_stay_in_bounds()
-    ensures { (m : Module) (tables : List FunctionTable) (w : World) (f : Function)
+    ensures { (m : Module) (map : Map) (w : World) (f : Function)
         (first s : State) (here : Here) (choice : Choice) (top : Activation) (rest : List Activation) (a n : ℕ)
-        → IsSandboxed m tables → IsLaidOut m.image m.imports w → Contains m.functions f
+        → IsSandboxedBy m map → IsLaidOut m.image m.imports w → Contains m.functions f
         → IsInitial w f first → Reaches m w first s → StandsAt m w s.rip s.active here → s.active ≡ top ∷ rest
         → Contains (events m w s here choice) (Write a n)
         → IsWithin a n (heap_range w) ⊎ IsWithin a n (globals_range w)
@@ -190,10 +184,10 @@ pub fn returning_code_is_sandboxed()
 
 /// Where nothing decodes at the entry of a declared function, no tables sandbox the module.
 pub fn unspelled_code_is_not_sandboxed()
-    ensures { (file : List ℕ) (tables : List FunctionTable) (f : Function) → IsModule file
+    ensures { (file : List ℕ) (map : Map) (f : Function) → IsModule file
         → Contains (declared_functions file) f
         → NothingAt (code_at (image_of file) f.entry f.size) 0
-        → IsSandboxed (module_of file) tables → ⊥ }
+        → IsSandboxedBy (module_of file) map → ⊥ }
 {
     functions_are_code();
     functions_ascend();
@@ -202,19 +196,4 @@ pub fn unspelled_code_is_not_sandboxed()
     segments_are_bounded();
     imports_are_few();
     code_has_its_size();
-}
-
-/// A module stays in its sandbox, and keeps to tables that are safe: the tables may be the least ones or others.
-pub fn safe_code_is_sandboxed()
-    ensures { (file : List ℕ) (tables : Tables) → IsModule file → IsBytes file
-        → AreSafe (declared_module file) tables → IsSandboxed (module_of file) tables.functions }
-{
-    functions_are_code();
-    code_is_settled();
-    file_bytes_are_memory();
-    segments_are_bounded();
-    code_has_its_size();
-    edges_are_post();
-    passing_code_is_covered();
-    one_thing_stands();
 }

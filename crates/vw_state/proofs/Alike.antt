@@ -2,13 +2,13 @@
 use Rattle.std.proofs.Common.{◌≡◌, ◌≢◌, ◌⊎◌, inl, inr, ℕ, suc, ◌≤◌, ◌<◌, ◌==◌, Bool, true, false, List, [], ◌∷◌, Option, Some, None, refl, sym, ◌∙◌, ap, subst, arith}
 use Rattle.std.specs.Prelude.{nat_lt}
 use Rattle.std.proofs.lemmas.Bool.Decides.{nat_tests}
-use Rattle.vw_state.specs.declared.state.State.{State}
+use Rattle.vw_domain.specs.declared.parts.Parts.{Parts}
+use Rattle.vw_domain.specs.State.{IsValidState, state_below}
+use Rattle.vw_domain.specs.StateOrder.{state_antisymmetric}
 use Rattle.vw_state.specs.declared.tables.PointState.{PointState}
-use Rattle.vw_state.specs.State.{IsBelow}
 use Rattle.vw_state.specs.Context.{Context}
 use Rattle.vw_state.specs.Tables.{state_of, RisesWithin}
 use Rattle.vw_state.specs.Solution.{IsLower}
-use Rattle.vw_state.proofs.Order.{antisymmetric}
 
 some_is : {A : Type 0} {x y : A} → Some x ≡ Some y → x ≡ y
 some_is e = cc
@@ -42,7 +42,7 @@ not_below from last p q ps qs rises alike less =
     none_some (sym none ∙ (sym (alike p.at) ∙ here p ps p.at refl))
 
 point_is : (p q : PointState) → p.at ≡ q.at → p.state ≡ q.state → p ≡ q
-point_is p q at state = ap (λ (n : ℕ). record { at = n; state = p.state }) at ∙ ap (λ (s : State). record { at = q.at; state = s }) state
+point_is p q at state = ap (λ (n : ℕ). record { at = n; state = p.state }) at ∙ ap (λ (s : Parts). record { at = q.at; state = s }) state
 
 pub tables_alike : (from last : ℕ) (xs ys : List PointState) → RisesWithin from last xs → RisesWithin from last ys → ((r : ℕ) → state_of xs r ≡ state_of ys r) → xs ≡ ys
 tables_alike from last [] [] rx ry alike = refl
@@ -73,7 +73,7 @@ tables_alike from last (p ∷ ps) (q ∷ qs) rx ry alike =
 -- ---- tables that are lower than each other
 
 module _ (f : Context) (x y : List PointState) (up : IsLower f x y) (down : IsLower f y x) where
-  same_states : (q : ℕ) (a b : Option State) → state_of x q ≡ a → state_of y q ≡ b → a ≡ b
+  same_states : (q : ℕ) (a b : Option Parts) → state_of x q ≡ a → state_of y q ≡ b → a ≡ b
   same_states q None None ea eb = refl
   same_states q (Some s) None ea eb = let lands = up q s ea in absurd (none_some (sym eb ∙ lands.there))
   same_states q None (Some t) ea eb = let lands = down q t eb in absurd (none_some (sym ea ∙ lands.there))
@@ -82,7 +82,9 @@ module _ (f : Context) (x y : List PointState) (up : IsLower f x y) (down : IsLo
       let below = down q t eb in
       let to_t : above.cover ≡ t = some_is (sym above.there ∙ eb) in
       let to_s : below.cover ≡ s = some_is (sym below.there ∙ ea) in
-      ap Some (antisymmetric s t (subst (λ (u : State). IsBelow s u) to_t above.is_below) (subst (λ (u : State). IsBelow t u) to_s below.is_below))
+      let low : IsValidState f.bounds s = subst (λ (u : Parts). IsValidState f.bounds u) to_s below.fits in
+      let high : IsValidState f.bounds t = subst (λ (u : Parts). IsValidState f.bounds u) to_t above.fits in
+      ap Some (state_antisymmetric f.bounds s t low high (subst (λ (u : Parts). state_below s u) to_t above.is_below) (subst (λ (u : Parts). state_below t u) to_s below.is_below))
 
   pub lower_both : RisesWithin 0 f.size x → RisesWithin 0 f.size y → x ≡ y
   lower_both rx ry = tables_alike 0 f.size x y rx ry (λ q. same_states q (state_of x q) (state_of y q) refl refl)

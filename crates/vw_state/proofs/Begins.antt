@@ -6,12 +6,13 @@ use Rattle.vw_stmt.specs.declared.operands.Var.{Var}
 use Rattle.vw_rows.specs.Numbers.{IsBytes}
 use Rattle.vw_rows.specs.Spelling.{Spells}
 use Rattle.vw_decode.specs.Lexing.{Found, insn_found, length_found, read}
-use Rattle.vw_state.specs.declared.state.State.{State}
+use Rattle.vw_domain.specs.declared.parts.Parts.{Parts}
+use Rattle.vw_domain.specs.Abstract.{Abstract}
 use Rattle.vw_state.specs.Code.{BeginsAt, NothingAt}
 use Rattle.vw_state.specs.Context.{Context, code_of}
 use Rattle.vw_state.specs.Post.{insn_edges, edges_read, edges_by, PostBy, nothing, begins}
 
-IsBytes-drop : (n : ℕ) (bytes : List ℕ) → IsBytes bytes → IsBytes (drop n bytes)
+pub IsBytes-drop : (n : ℕ) (bytes : List ℕ) → IsBytes bytes → IsBytes (drop n bytes)
 IsBytes-drop n bytes h i = rw (get_or-drop n bytes i 0) (h (n + i))
 
 -- what is read at a point begins there, by what reading answers
@@ -37,7 +38,7 @@ module _ (no_front : (bytes : List ℕ) → IsBytes bytes → (read bytes ≡ No
   nothing_read : read (drop at code) ≡ None → NothingAt code at
   nothing_read e i len b = (no_front (drop at code) (IsBytes-drop at code bytes)).0 e len i b.spelled
 
-  module _ (targets : Var → State → List ℕ) (state : State) where
+  module _ (targets : Var → Abstract → List ℕ) (state : Parts) where
     is_post : (found : Option Found) → read (drop at code) ≡ found → PostBy f targets at state (edges_read f targets at state found)
     is_post None e = nothing (nothing_read e)
     is_post (Some found) e = begins (insn_found found) (read_len found) (read_begins found e)
@@ -64,6 +65,6 @@ module _ (no_front : (bytes : List ℕ) → IsBytes bytes → (read bytes ≡ No
     unfolding edges_by
     begun_edges i len b = begun_post (read (drop at code)) refl i len b
 
-    pub only_edges : (edges : List (ℕ × State)) → PostBy f targets at state edges → edges ≡ edges_by f targets at state
+    pub only_edges : (edges : List (ℕ × Parts)) → PostBy f targets at state edges → edges ≡ edges_by f targets at state
     only_edges edges (nothing none) = none_edges none
     only_edges edges (begins i len b) = begun_edges i len b

@@ -2,7 +2,20 @@ mod Begins
 mod Spellings
 mod Sizes
 mod Flows
-mod Order
 mod Alike
 mod RoundLemmas
 pub mod Sites
+mod EdgeStates
+mod NearBounds
+mod BoundLists
+mod SiteRanges
+mod Displacements
+mod Counts
+mod EdgeRises
+mod FormGains
+mod EdgeGrows
+mod Written
+mod Outcomes
+mod Contents
+mod Loaded
+mod CodeBytes

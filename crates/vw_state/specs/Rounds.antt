@@ -4,27 +4,26 @@ use Rattle.std.specs.Prelude.{◌≡◌, ℕ, suc, ◌+◌, ◌⊎◌, List, [],
 use Rattle.vw_insn.specs.declared.instruction.Insn.{Insn}
 use Rattle.vw_stmt.specs.declared.operands.Var.{Var}
 use Rattle.vw_stmt.specs.declared.statement.Flow.TheVariants as flow
-use Rattle.vw_lift.specs.Lifted.{steps, flow_of}
-use Rattle.vw_state.specs.declared.state.State.{State}
+use Rattle.vw_lift.specs.Lifted.{flow_of}
+use Rattle.vw_domain.specs.declared.parts.Parts.{Parts}
 use Rattle.vw_state.specs.declared.tables.PointState.{PointState}
 use Rattle.vw_state.specs.Code.{BeginsAt}
 use Rattle.vw_state.specs.Context.{Context, code_of}
-use Rattle.vw_state.specs.Steps.{after_stmts}
-use Rattle.vw_state.specs.Post.{destinations}
+use Rattle.vw_state.specs.Post.{destinations, form_behind}
 use Rattle.vw_state.specs.Tables.{state_of}
 use Rattle.vw_state.specs.Solution.{IsLeastWith}
 use Rattle.vw_state.specs.Checks.{PassesGraph, StopsAt}
 
 -- a jump through a register stands at a point of the table, and its state tells that it goes to `to`
 pub record JumpsTo (f : Context) (table : List PointState) (at to : ℕ) : Type 0 where
-  pub state : State
+  pub state : Parts
   pub there : state_of table at ≡ Some state
   pub instruction : Insn
   pub len : ℕ
   pub stands : BeginsAt (code_of f) at instruction len
   pub src : Var
   pub jumps : flow_of instruction ≡ flow.JumpReg src
-  pub goes : Contains (destinations f src (after_stmts f (at + len) (steps instruction) state)) to
+  pub goes : Contains (destinations f src (form_behind f (at + len) instruction state)) to
 
 -- the pairs are those of the table's jumps through registers and their points, and no others
 pub record AreJumps (f : Context) (table : List PointState) (pairs : List (ℕ × ℕ)) : Type 0 where

@@ -2,27 +2,27 @@
 -- Analysis, chapter 2).
 use Rattle.std.specs.Prelude.{◌≡◌, ℕ, List, Some}
 use Rattle.std.specs.List.{All}
-use Rattle.vw_state.specs.declared.state.State.{State}
+use Rattle.vw_domain.specs.declared.parts.Parts.{Parts}
+use Rattle.vw_domain.specs.State.{IsValidState, state_below, entry_state}
 use Rattle.vw_state.specs.declared.tables.PointState.{PointState}
-use Rattle.vw_state.specs.State.{IsBelow, entry_state}
-use Rattle.vw_state.specs.Context.{Context, IsWithinBounds}
+use Rattle.vw_state.specs.Context.{Context}
 use Rattle.vw_state.specs.Post.{Post, PostWith}
 use Rattle.vw_state.specs.Tables.{state_of, RisesWithin}
 
 -- A state that an edge carries lands below that of the edge's target: the table gives the target a state, each bound of
 -- its values is one of the function's, and it is greater or equal.
-pub record Lands (f : Context) (table : List PointState) (edge : ℕ × State) : Type 0 where
-  pub cover : State
+pub record Lands (f : Context) (table : List PointState) (edge : ℕ × Parts) : Type 0 where
+  pub cover : Parts
   pub there : state_of table edge.0 ≡ Some cover
-  pub fits : IsWithinBounds f cover
-  pub is_below : IsBelow edge.1 cover
+  pub fits : IsValidState f.bounds cover
+  pub is_below : state_below edge.1 cover
 
 -- A table that gives some points, from 0 to the size, a state each: the entry state lands at 0, and so does each of the
 -- edges that leave a point with its state.
-pub record SolvesBy (f : Context) (Edges : ℕ → State → List (ℕ × State) → Type 0) (table : List PointState) : Type 0 where
+pub record SolvesBy (f : Context) (Edges : ℕ → Parts → List (ℕ × Parts) → Type 0) (table : List PointState) : Type 0 where
   pub rises : RisesWithin 0 f.size table
   pub begins : Lands f table (0, entry_state)
-  pub closed : (at : ℕ) (state : State) → state_of table at ≡ Some state → (edges : List (ℕ × State)) → Edges at state edges → All (Lands f table) edges
+  pub closed : (at : ℕ) (state : Parts) → state_of table at ≡ Some state → (edges : List (ℕ × Parts)) → Edges at state edges → All (Lands f table) edges
 
 -- a solution of the function's equations
 abbrev pub Solves : Context → List PointState → Type 0
@@ -34,7 +34,7 @@ SolvesWith f pairs = SolvesBy f (PostWith f pairs)
 
 -- each state of `low` lands in `high`
 abbrev pub IsLower : Context → List PointState → List PointState → Type 0
-IsLower f low high = (at : ℕ) (state : State) → state_of low at ≡ Some state → Lands f high (at, state)
+IsLower f low high = (at : ℕ) (state : Parts) → state_of low at ≡ Some state → Lands f high (at, state)
 
 -- a solution with these pairs that is lower than every such solution
 pub record IsLeastWith (f : Context) (pairs : List (ℕ × ℕ)) (table : List PointState) : Type 0 where

@@ -1,32 +1,38 @@
-ghost use Rattle.std.specs.Prelude.{◌≡◌, ◌∷◌, [], ◌++◌, ◌↔◌, List, IsTrue, IfSome, IfNone, OnOk, OnErr};
+ghost use Rattle.std.specs.Prelude.{◌≡◌, ◌≤◌, [], ◌∷◌, ◌++◌, ◌↔◌, length, List, IsTrue, IfSome, IfNone, OnOk, OnErr};
 ghost use Rattle.vw_insn.specs.Listed.{IsListed};
 ghost use Rattle.vw_stmt.specs.declared.statement.Flow.{Flow};
 ghost use Rattle.vw_stmt.specs.declared.statement.Stmt.{Stmt};
 ghost use Rattle.vw_lift.specs.Lifted.{flow_of};
+ghost use Rattle.vw_domain.specs.Abstract.{Abstract};
+ghost use Rattle.vw_domain.specs.State.{Fits};
 ghost use Rattle.vw_state.specs.Checks.{Leaves};
 ghost use Rattle.vw_state.specs.Code.{code_at, NothingAt, StandsAlone};
 ghost use Rattle.vw_state.specs.Context.{Context, IsSite};
-ghost use Rattle.vw_state.specs.Post.{relative_point, inside, edge_to, destinations, flow_edges, edges_at, Post};
-ghost use Rattle.vw_state.specs.declared.state.State.{State};
+ghost use Rattle.vw_state.specs.Laws.{HasSites};
+ghost use Rattle.vw_state.specs.Post.{relative_point, inside, destinations, insn_edges, edges_at, Post};
 
+use crate::Site;
+use crate::flow_edges::append_flow;
 use crate::laws::edges_are_post;
 use crate::site::as_bytes;
-use crate::{Site, State};
+use crate::statements::after_stmts;
 use std::alloc::Global;
 use vw_bits::OutOfMemory;
 use vw_decode::decode;
+use vw_domain::State;
 use vw_insn::Insn;
 use vw_lattice::Lattice;
 use vw_lift::lift;
 use vw_solver::Edges;
 use vw_stmt::{Flow, Stmt};
 
-/// Appends to `out` the edges that leave a point of a function with a state. Control goes on to the next instruction,
-/// also where this is the function's end; from a direct jump to its target, and from a direct branch to its target
-/// and then to the next instruction; a target outside the function has no edge. A call goes on to the next
-/// instruction. UD2 and RET have no edge, nor has a jump through a register, of whose destination no state tells yet,
-/// nor a point where nothing decodes in the bytes up to the function's end. A site whose bytes are not in the file
-/// part of one segment has no code. OutOfMemory where the allocator refuses a request; then `out` is as it was.
+/// Appends to `out` the edges that leave a point of a function with a state, each with the state that it carries.
+/// Control goes on to the next instruction, also where this is the function's end; from a direct jump to its target,
+/// and from a direct branch to its target and then to the next instruction, where what was compared may be so; a target
+/// outside the function has no edge. A call goes on to the next instruction with what it leaves. UD2 and RET have no
+/// edge, nor has a jump through a register, since tables of jumps are not followed yet, nor a point where nothing decodes
+/// in the bytes up to the function's end. A site whose bytes are not in the file part of one segment has no code.
+/// OutOfMemory where the allocator refuses a request; then `out` is as it was.
 pub fn post(
     alloc: Global,
     site: &Site,
@@ -34,9 +40,11 @@ pub fn post(
     state: &State,
     out: &mut Edges<State>,
 ) -> Result<(), OutOfMemory>
-    ensures edges { (f : Context) → IsSite f site.now
+    requires few { length site.now.tables.now ≤ 64 }
+    requires fits { Fits site.now.bounds.now state.now }
+    ensures edges { (f : Context) → IsSite f site.now → HasSites f
         → OnOk result (out.new ≡ out.old ++ edges_at f at state.now) }
-    ensures post { (f : Context) → IsSite f site.now
+    ensures post { (f : Context) → IsSite f site.now → HasSites f
         → OnOk result (Post f at state.now (edges_at f at state.now)) }
     ensures err { OnErr result (out.new ≡ out.old) }
 {
@@ -52,23 +60,44 @@ pub fn post_of_code(
     state: &State,
     out: &mut Edges<State>,
 ) -> Result<(), OutOfMemory>
-    requires { code.now ≡ code_at site.now.image.now site.now.entry site.now.size }
-    ensures edges { (f : Context) → IsSite f site.now
+    requires code { code.now ≡ code_at site.now.image.now site.now.entry site.now.size }
+    requires few { length site.now.tables.now ≤ 64 }
+    requires fits { Fits site.now.bounds.now state.now }
+    ensures edges { (f : Context) → IsSite f site.now → HasSites f
         → OnOk result (out.new ≡ out.old ++ edges_at f at state.now) }
-    ensures post { (f : Context) → IsSite f site.now
+    ensures post { (f : Context) → IsSite f site.now → HasSites f
         → OnOk result (Post f at state.now (edges_at f at state.now)) }
     ensures err { OnErr result (out.new ≡ out.old) }
 {
     edges_are_post();
     let code = as_bytes(code);
-    let size = site.size;
     match instruction_at(code, at) {
-        Some((insn, len)) => {
-            let flow = flow_of(alloc, &insn);
-            append_edges(size, at + len, flow, state, out)
-        }
+        Some((insn, len)) => append_edges(alloc, site, at + len, &insn, state, out),
         None => Ok(()),
     }
+}
+
+// Appends the edges of an instruction with `next` behind it, from a state.
+fn append_edges(
+    alloc: Global,
+    site: &Site,
+    next: u32,
+    insn: &Insn,
+    state: &State,
+    out: &mut Edges<State>,
+) -> Result<(), OutOfMemory>
+    requires few { length site.now.tables.now ≤ 64 }
+    requires listed { IsListed insn.now }
+    requires fits { Fits site.now.bounds.now state.now }
+    ensures ok { (f : Context) → IsSite f site.now → OnOk result
+        (out.new ≡ out.old ++ insn_edges f (destinations f) next state.now insn.now) }
+    ensures err { OnErr result (out.new ≡ out.old) }
+{
+    let stmts = lift(alloc, insn, 0, 0);
+    let flow = last_flow(stmts.as_slice());
+    let copy = state.copy()?;
+    let after = after_stmts(site, next, stmts.as_slice(), copy)?;
+    append_flow(site, next, flow, after, out)
 }
 
 /// The instruction that begins at a point of a function's code, and how many bytes it has. None exactly where
@@ -129,70 +158,16 @@ pub fn direct_target(size: u32, next: u32, rel: i32) -> Option<u32>
 }
 
 /// Whether a flow with `next` behind it may leave a function of `size` bytes otherwise than by a return or a call: a
-/// direct jump or branch whose target is outside, or a jump through a register, since no state tells yet that it
-/// stays inside. Takes no memory.
+/// direct jump or branch whose target is outside, or a jump through a register, since tables of jumps are not followed
+/// yet. Takes no memory.
 pub fn leaves_function(size: u32, next: u32, flow: Flow) -> bool
-    ensures { (f : Context) (state : State) → f.size ≡ size
-        → (IsTrue result ↔ Leaves f next state flow) }
+    ensures { (f : Context) (st : Abstract) → f.size ≡ size
+        → (IsTrue result ↔ Leaves f next st flow) }
 {
     match flow {
         Flow::Jump { rel } => direct_target(size, next, rel).is_none(),
         Flow::Branch { rel, .. } => direct_target(size, next, rel).is_none(),
         Flow::JumpReg { .. } => true,
         Flow::Next | Flow::Call { .. } | Flow::CallReg { .. } | Flow::Ret | Flow::Stop => false,
-    }
-}
-
-// Appends the edges of a flow.
-fn append_edges(
-    size: u32,
-    next: u32,
-    flow: Flow,
-    state: &State,
-    out: &mut Edges<State>,
-) -> Result<(), OutOfMemory>
-    ensures ok { (f : Context) → f.size ≡ size
-        → OnOk result (out.new ≡ out.old ++ flow_edges f (destinations f) next state.now flow) }
-    ensures err { OnErr result (out.new ≡ out.old) }
-{
-    match flow {
-        Flow::Next | Flow::Call { .. } | Flow::CallReg { .. } => append(Some(next), state, out),
-        Flow::Jump { rel } => append(direct_target(size, next, rel), state, out),
-        Flow::Branch { rel, .. } => append_branch(direct_target(size, next, rel), next, state, out),
-        Flow::JumpReg { .. } | Flow::Ret | Flow::Stop => Ok(()),
-    }
-}
-
-// Appends the edges of a branch: the taken one first.
-fn append_branch(
-    to: Option<u32>,
-    next: u32,
-    state: &State,
-    out: &mut Edges<State>,
-) -> Result<(), OutOfMemory>
-    ensures ok { OnOk result
-        (out.new ≡ out.old ++ (edge_to to state.now ++ (next, state.now) ∷ [])) }
-    ensures err { OnErr result (out.new ≡ out.old) }
-{
-    let before = out.as_slice().len();
-    append(to, state, out)?;
-    let second = append(Some(next), state, out);
-    if second.is_err() {
-        out.truncate(before);
-    }
-    second
-}
-
-// Appends an edge to a target, where there is one.
-fn append(to: Option<u32>, state: &State, out: &mut Edges<State>) -> Result<(), OutOfMemory>
-    ensures ok { OnOk result (out.new ≡ out.old ++ edge_to to state.now) }
-    ensures err { OnErr result (out.new ≡ out.old) }
-{
-    match to {
-        Some(target) => {
-            let carried = state.copy()?;
-            out.push((target, carried))
-        }
-        None => Ok(()),
     }
 }

@@ -1,24 +1,42 @@
-//! The state of the analysis at a point of a function, the edges that leave a point, and the tables of states
-//! that the analysis answers.
+//! A function in its module: the addresses and the values of its instructions, the edges that leave a point with a state,
+//! and the tables of states that the analysis answers.
 #![tactic(auto)]
 
+mod bounds;
+mod branch_rules;
+mod copies;
 mod edges;
+mod flags;
+mod flow_edges;
 mod laws;
+mod loads;
 mod memory;
+mod module_tables;
+mod moves;
 mod operand;
+mod probe_calls;
+mod puts;
+mod registers;
 mod site;
-mod state;
+mod statements;
+mod stores;
 mod tables;
 
+pub use bounds::bounds_of;
 pub use edges::{direct_target, flow_of, instruction_at, leaves_function, post, post_of_code};
 pub use laws::{
-    code_has_its_size, code_is_short, edges_are_post, edges_rise, least_tables_are_one, one_round,
+    code_has_its_size, code_is_short, codes_are_bytes, edges_are_post, edges_grow_slowly,
+    edges_rise, functions_have_sites, least_tables_are_one, one_round, sites_are_in_range,
+    statements_have_displacements, tables_are_short,
 };
 pub use memory::Address;
+pub use module_tables::{lengths_of, tables_of};
 pub use operand::address;
-pub use site::Site;
-pub use state::{Bounds, State, entry_state};
+pub use site::{Site, code_of};
+pub use statements::{after_stmt, after_stmts, apply, value_after};
 pub use tables::{FunctionTable, Place, PointState, Tables, Verdict};
 
+#[cfg(test)]
+mod bounds_tests;
 #[cfg(test)]
 mod tests;

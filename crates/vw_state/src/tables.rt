@@ -1,15 +1,15 @@
-use crate::State;
 use vw_bits::List;
+use vw_domain::State;
 
 /// The tables of a module's functions.
-#[derive(Debug, Drop)]
+#[derive(Drop)]
 pub struct Tables {
     /// By ascending entry.
     pub functions: List<FunctionTable>,
 }
 
 /// The table of a function: some of its points, from 0 to its size, with a state each.
-#[derive(Debug, Drop)]
+#[derive(Drop)]
 pub struct FunctionTable {
     /// The address of the function's first byte, counted from the load address.
     pub entry: u64,
@@ -18,7 +18,7 @@ pub struct FunctionTable {
 }
 
 /// A point of a function with its state.
-#[derive(Debug, Drop)]
+#[derive(Drop)]
 pub struct PointState {
     /// The offset from the function's first byte.
     pub at: u32,
@@ -37,7 +37,7 @@ pub struct Place {
 }
 
 /// What the analysis answers of a module.
-#[derive(Debug, Drop)]
+#[derive(Drop)]
 pub enum Verdict {
     /// Every function is safe: the least tables.
     Safe(Tables),

@@ -1,7 +1,8 @@
-use crate::{Site, entry_state, post};
+use crate::{Site, bounds_of, code_of, post};
 use std::alloc::{AllocError, Global};
 use std::test::Fail;
 use vw_bits::List;
+use vw_domain::{State, entry_is_state, entry_state};
 use vw_dynamic::Dynamic;
 use vw_elf::Elf;
 use vw_image::Image;
@@ -104,7 +105,7 @@ fn image(alloc: Global, code: u64) -> Option<Image> {
 }
 
 /// Whether the edges go to these targets, in their order.
-fn go_to(edges: &[(u32, crate::State)], targets: &[u32]) -> bool {
+fn go_to(edges: &[(u32, State)], targets: &[u32]) -> bool {
     edges.len() == targets.len()
         && edges
             .iter()
@@ -116,13 +117,18 @@ fn go_to(edges: &[(u32, crate::State)], targets: &[u32]) -> bool {
 fn edges_of_instructions(rt: HostRuntime) -> Result<(), Fail> {
     for (code, size, at, targets) in CASES.iter() {
         let image = image(rt.alloc(), *code).ok_or("an image")?;
+        let tables = List::new(rt.alloc());
+        let bounds = bounds_of(rt.alloc(), code_of(&image, 120, *size), &[])?;
         let site = Site {
             image: &image,
+            tables: &tables,
             entry: 120,
             size: *size,
+            bounds: &bounds,
         };
-        let state = entry_state(rt.alloc())?;
-        let mut edges: Edges<crate::State> = Edges::new(rt.alloc());
+        let state = entry_state(rt.alloc());
+        entry_is_state();
+        let mut edges: Edges<State> = Edges::new(rt.alloc());
         post(rt.alloc(), &site, *at, &state, &mut edges)?;
         assert!(rt;
             go_to(edges.as_slice(), *targets),

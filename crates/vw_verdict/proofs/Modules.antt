@@ -18,7 +18,7 @@ use Rattle.vw_checks.specs.Safe.{IsSafeTable, HasSafeTable}
 use Rattle.vw_checks.specs.Modules.{IsNumbered, TablesOf}
 use Rattle.vw_verdict.specs.Places.{IsPlaceIn}
 use Rattle.vw_verdict.specs.Verdicts.{IsVerdict}
-use Rattle.vw_verdict.specs.Findings.{Found}
+use Rattle.vw_verdict.specs.Findings.{Found, Keeps, AreKept}
 use Rattle.vw_verdict.proofs.NoPlace.{LeastIsSafe, StopsAreChecks, no_place}
 
 tables_more : (Holds : Context → List PointState → Type 0) (m : Module) (functions : List Function) (tables : List FunctionTable) (f : Function) (t : FunctionTable)
@@ -69,7 +69,7 @@ module _ (m : Module) (n : ℕ) (f : Function) (tables : List FunctionTable) (is
     each = each_more (record { table = t.states; is_safe = found.2 });
   }
 
-  pub judged_unsafe : LeastIsSafe → StopsAreChecks → (place : Place) → Found (context_of m f) (finding.Unsafe place) → IsVerdict m (verdict.Unsafe place)
+  pub judged_unsafe : ((number : ℕ) (g : Function) → IsNumbered m number g → LeastIsSafe (context_of m g)) → StopsAreChecks → (place : Place) → Found (context_of m f) (finding.Unsafe place) → IsVerdict m (verdict.Unsafe place)
   judged_unsafe law among place found = (
     λ each. fails_here (each n f is),
     record {
@@ -78,15 +78,15 @@ module _ (m : Module) (n : ℕ) (f : Function) (tables : List FunctionTable) (is
       is = is;
       entry = found.0;
       fails = found.1;
-      before = λ other g less is_g at check. safe_before (passed.each other g less is_g) at check;
+      before = λ other g less is_g at check. safe_before (law other g is_g) (passed.each other g less is_g) at check;
     },
   )
     where
-      safe_before : {g : Context} → HasSafeTable g → (at check : ℕ) → IsPlaceIn g at check → ⊥
-      safe_before {g} has at check = no_place law among g has.table has.is_safe at check
+      safe_before : {g : Context} → LeastIsSafe g → HasSafeTable g → (at check : ℕ) → IsPlaceIn g at check → ⊥
+      safe_before {g} least has at check = no_place g least among has.table has.is_safe at check
 
       fails_here : HasSafeTable (context_of m f) → ⊥
-      fails_here has = no_place law among (context_of m f) has.table has.is_safe place.at place.check found.1
+      fails_here has = no_place (context_of m f) (law n f is) among has.table has.is_safe place.at place.check found.1
 
 pub judged_safe : (m : Module) (n : ℕ) (tables : List FunctionTable) → length m.functions ≤ n → Passed m n tables → IsVerdict m (verdict.Safe (record { functions = tables }))
 judged_safe m n tables end passed = (
@@ -101,3 +101,12 @@ numbered_at functions n inside = (get_or functions n blank, slice_get-get_or fun
   where
     blank : Function
     blank = record { entry = 0; size = 0; name = [] }
+
+-- what was kept of all tables, and of one more
+pub kept_more : (keeps : Bool) (kept all new : List FunctionTable) (t : FunctionTable) → AreKept keeps kept all → Keeps keeps kept t new → AreKept keeps new (all ++ t ∷ [])
+kept_more true kept all new t are keeps = keeps ∙ ap (λ (ts : List FunctionTable). ts ++ t ∷ []) are
+kept_more false kept all new t are keeps = tt
+
+pub none_kept : (keeps : Bool) → AreKept keeps [] []
+none_kept true = refl
+none_kept false = tt

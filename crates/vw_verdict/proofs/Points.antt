@@ -5,9 +5,9 @@ use Rattle.std.specs.List.{slice_get, find}
 use Rattle.std.specs.Option.{option_map}
 use Rattle.std.proofs.lemmas.Bool.Decides.{nat_tests}
 use Rattle.std.proofs.lemmas.Option.{slice_get_within}
-use Rattle.vw_state.specs.declared.state.State.{State}
+use Rattle.vw_domain.specs.declared.parts.Parts.{Parts}
 use Rattle.vw_state.specs.declared.tables.PointState.{PointState}
-use Rattle.vw_state.specs.State.{entry_state}
+use Rattle.vw_domain.specs.State.{entry_state}
 use Rattle.vw_state.specs.Tables.{state_of, RisesWithin}
 use Rattle.vw_state.specs.Context.{Context}
 use Rattle.vw_checks.specs.Checks.{Fails, Passes, LowestFailing}
@@ -19,7 +19,7 @@ abbrev pub IsAt : List PointState → ℕ → PointState → Type 0
 IsAt table k p = slice_get table k ≡ Some p
 
 -- an entry that gives a point its state
-record Gives (table : List PointState) (point : ℕ) (state : State) : Type 0 where
+record Gives (table : List PointState) (point : ℕ) (state : Parts) : Type 0 where
   pub k : ℕ
   pub entry : PointState
   pub is_at : IsAt table k entry
@@ -29,16 +29,16 @@ record Gives (table : List PointState) (point : ℕ) (state : State) : Type 0 wh
 some_is : {A : Type 0} {x y : A} → Some x ≡ Some y → x ≡ y
 some_is e = cc
 
-abbrev given : Option PointState → Option State
+abbrev given : Option PointState → Option Parts
 given found = option_map (λ (p : PointState). p.state) found
 
-gives_step : (p : PointState) (rest : List PointState) (point : ℕ) (state : State) → (state_of rest point ≡ Some state → Gives rest point state)
+gives_step : (p : PointState) (rest : List PointState) (point : ℕ) (state : Parts) → (state_of rest point ≡ Some state → Gives rest point state)
     → (same : Bool) → (p.at == point) ≡ same → given (cond same (Some p) (find (λ (q : PointState). q.at == point) rest)) ≡ Some state → Gives (p ∷ rest) point state
 gives_step p rest point state later true is e = record { k = 0; entry = p; is_at = refl; same_point = grind (arith, nat_tests, is); same_state = some_is e }
 gives_step p rest point state later false is e =
     let g = later e in record { k = suc g.k; entry = g.entry; is_at = g.is_at; same_point = g.same_point; same_state = g.same_state }
 
-gives : (table : List PointState) (point : ℕ) (state : State) → state_of table point ≡ Some state → Gives table point state
+gives : (table : List PointState) (point : ℕ) (state : Parts) → state_of table point ≡ Some state → Gives table point state
 gives [] point state e = absurd (none_some e)
   where
     none_some : {A : Type 0} {x : A} → None ≡ Some x → ⊥
@@ -115,7 +115,7 @@ passes_all f table n end below at state there =
     let g = gives table at state there in
     let passes : Passes f g.entry.at g.entry.state = below g.k g.entry (omega (arith, end, slice_get_within table g.k g.entry g.is_at)) g.is_at in
     let moved : Passes f at g.entry.state = subst (λ (a : ℕ). Passes f a g.entry.state) g.same_point passes in
-    subst (λ (s : State). Passes f at s) g.same_state moved
+    subst (λ (s : Parts). Passes f at s) g.same_state moved
 
 pub fails_first : (f : Context) (last : ℕ) (table : List PointState) (n : ℕ) (p : PointState) (check : ℕ) → RisesWithin 0 last table → IsAt table n p → PassesBelow f table n
     → LowestFailing f p.at p.state (Some check) → FailsFirst f table p.at check
@@ -126,20 +126,13 @@ fails_first f last table n p check rises is below failing = record {
   lowest = λ other s there c fails. lowest other s there c fails;
 }
   where
-    lowest : (other : ℕ) (s : State) → state_of table other ≡ Some s → (c : ℕ) → Fails f other s c → p.at ≤ other
+    lowest : (other : ℕ) (s : Parts) → state_of table other ≡ Some s → (c : ℕ) → Fails f other s c → p.at ≤ other
     lowest other s there c fails =
         let g = gives table other s there in
         elim (below_or g.k n) [
           | inl before ↦
-              let moved : Fails f other g.entry.state c = subst (λ (t : State). Fails f other t c) (sym g.same_state) fails in
+              let moved : Fails f other g.entry.state c = subst (λ (t : Parts). Fails f other t c) (sym g.same_state) fails in
               let here : Fails f g.entry.at g.entry.state c = subst (λ (a : ℕ). Fails f a g.entry.state c) (sym g.same_point) moved in
               absurd (below g.k g.entry before g.is_at c here)
           | inr after ↦ omega (arith, in_order 0 last table rises n g.k p g.entry after is g.is_at, g.same_point)
         ]
-
-abbrev pub blank : PointState
-blank = record { at = 0; state = entry_state }
-
--- the entry with a number
-abbrev pub point_at : List PointState → ℕ → PointState
-point_at table k = get_or table k blank

@@ -1,6 +1,6 @@
 -- Where a function fails.
 use Rattle.std.specs.Prelude.{◌≡◌, ℕ, ◌≤◌, List, Some}
-use Rattle.vw_state.specs.declared.state.State.{State}
+use Rattle.vw_domain.specs.declared.parts.Parts.{Parts}
 use Rattle.vw_state.specs.declared.tables.PointState.{PointState}
 use Rattle.vw_state.specs.Context.{Context}
 use Rattle.vw_state.specs.Tables.{state_of}
@@ -10,10 +10,10 @@ use Rattle.vw_checks.specs.Checks.{Fails, LowestFailing}
 
 -- the lowest point of the table at which a check fails, with the lowest number there
 pub record FailsFirst (f : Context) (table : List PointState) (at check : ℕ) : Type 0 where
-  pub state : State
+  pub state : Parts
   pub there : state_of table at ≡ Some state
   pub fails : LowestFailing f at state (Some check)
-  pub lowest : (other : ℕ) (s : State) → state_of table other ≡ Some s → (c : ℕ) → Fails f other s c → at ≤ other
+  pub lowest : (other : ℕ) (s : Parts) → state_of table other ≡ Some s → (c : ℕ) → Fails f other s c → at ≤ other
 
 -- The place of a function.
 pub data IsPlaceIn (f : Context) (at check : ℕ) : Type 0 where

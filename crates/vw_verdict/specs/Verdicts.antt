@@ -1,8 +1,9 @@
 -- Verdicts on a module.
-use Rattle.std.specs.Prelude.{◌≡◌, ℕ, ◌<◌}
+use Rattle.std.specs.Prelude.{◌≡◌, ℕ, ◌<◌, Option, Some, None}
 use Rattle.vw_layout.specs.declared.functions.Function.{Function}
 use Rattle.vw_layout.specs.declared.layout.Module.{Module}
 use Rattle.vw_state.specs.declared.tables.Place.{Place}
+use Rattle.vw_state.specs.declared.tables.Tables.{Tables}
 use Rattle.vw_state.specs.declared.tables.Verdict.{Verdict}
 use Rattle.vw_state.specs.declared.tables.Verdict.TheVariants.{Safe, Unsafe}
 use Rattle.vw_state.specs.Context.{context_of}
@@ -23,3 +24,8 @@ pub record IsPlaceOf (m : Module) (place : Place) : Type 0 where
 abbrev pub IsVerdict : Module → Verdict → Type 0
 IsVerdict m (Safe tables) = EachHasSafeTable m × AreLeast m tables × AreSafe m tables
 IsVerdict m (Unsafe place) = (EachHasSafeTable m → ⊥) × IsPlaceOf m place
+
+-- the same without the tables
+abbrev pub IsJudgement : Module → Option Place → Type 0
+IsJudgement m None = (tables : Tables) × IsVerdict m (Safe tables)
+IsJudgement m (Some place) = IsVerdict m (Unsafe place)

@@ -1,21 +1,24 @@
-ghost use Rattle.std.specs.Prelude.{◌≡◌, ◌+◌, ◌<◌, ◌≤◌, length, Some, IfOk};
-ghost use Rattle.std.specs.List.{slice_get};
+ghost use Rattle.std.specs.Prelude.{◌≡◌, ◌+◌, ◌<◌, ◌≤◌, length, map, Some, IfOk};
+ghost use Rattle.std.specs.List.{All, slice_get};
 ghost use Rattle.vw_layout.specs.declared.functions.Function.{Function};
 ghost use Rattle.vw_layout.specs.Layout.{IsWhole};
-ghost use Rattle.vw_state.specs.Context.{context_of};
+ghost use Rattle.vw_state.specs.Context.{context_of, extent_of, lengths_of, IsSite};
+ghost use Rattle.vw_state.specs.Laws.{tick_limit};
+ghost use Rattle.vw_state.specs.Tables.{AllFit};
 ghost use Rattle.vw_verdict.specs.Findings.{Found, EndsStable};
 
 use crate::failing::first_failing;
 use std::alloc::Global;
 use std::sync::ledger::Ledger;
 use vw_bits::OutOfMemory;
-use vw_graph::{Rounds, rounds};
+use vw_graph::{Rounds, rounds_at};
 use vw_layout::Module;
 use vw_solver::Steps;
-use vw_state::{FunctionTable, Place, Site, one_round};
+use vw_state::{FunctionTable, Place, Site, bounds_of, code_of, one_round};
+use vw_values::TableList;
 
 /// What is found of a function.
-#[derive(Debug, Drop)]
+#[derive(Drop)]
 pub enum Finding {
     /// Its least table, at whose points no check fails.
     Safe(FunctionTable),
@@ -23,25 +26,42 @@ pub enum Finding {
     Unsafe(Place),
 }
 
-/// The least table of a function where it is safe, else the function's place.
+/// The least table of a function where it is safe, else the function's place. The tables of the module are given by
+/// address and number of entries, and by the number of entries alone.
 pub(crate) fn judge_function<L: Ledger>(
     alloc: Global,
     loaded: &Module,
+    tables: &TableList,
+    lengths: &[u64],
     number: u32,
     steps: &mut Steps<L>,
 ) -> Result<Finding, OutOfMemory>
     requires whole { IsWhole loaded.now }
+    requires tables { tables.now ≡ map extent_of loaded.now.tables }
+    requires few { length tables.now ≤ 64 }
+    requires lengths { lengths.now ≡ lengths_of loaded.now.tables }
+    requires short { All (λ n. n ≤ 65536) lengths.now }
     requires declared { number < length loaded.now.functions }
     ensures found { IfOk result (λ finding. (f : Function)
         → slice_get loaded.now.functions number ≡ Some f
         → Found (context_of loaded.now f) finding) }
     ensures ticks { (f : Function) → slice_get loaded.now.functions number ≡ Some f
-        → steps.new ≤ steps.old + (f.size + 1) }
+        → steps.new ≤ steps.old + tick_limit (context_of loaded.now f) }
     ensures counts { steps.old ≤ steps.new }
 {
-    match rounds(alloc, loaded, number, steps)? {
+    let function = &loaded.functions.as_slice()[number as usize];
+    let code = code_of(&loaded.image, function.entry, function.size);
+    let bounds = bounds_of(alloc, code, lengths)?;
+    let site = Site {
+        image: &loaded.image,
+        tables,
+        entry: function.entry,
+        size: function.size,
+        bounds: &bounds,
+    };
+    match rounds_at(alloc, loaded, number, site, steps)? {
         Rounds::Stopped { table, at, check } => Ok(unsafe_at(table.entry, at, check)),
-        Rounds::Stable(table) => judge_table(alloc, loaded, number, table),
+        Rounds::Stable(table) => judge_table(alloc, loaded, number, &site, table),
     }
 }
 
@@ -56,9 +76,16 @@ fn judge_table(
     alloc: Global,
     loaded: &Module,
     number: u32,
+    site: &Site,
     table: FunctionTable,
 ) -> Result<Finding, OutOfMemory>
+    requires whole { IsWhole loaded.now }
     requires declared { number < length loaded.now.functions }
+    requires site { (f : Function) → slice_get loaded.now.functions number ≡ Some f
+        → IsSite (context_of loaded.now f) site.now }
+    requires few { length site.now.tables.now ≤ 64 }
+    requires fit { (f : Function) → slice_get loaded.now.functions number ≡ Some f
+        → AllFit (context_of loaded.now f).bounds table.states }
     requires stable { (f : Function) → slice_get loaded.now.functions number ≡ Some f
         → EndsStable (context_of loaded.now f) table }
     ensures { IfOk result (λ finding. (f : Function)
@@ -66,13 +93,7 @@ fn judge_table(
         → Found (context_of loaded.now f) finding) }
 {
     one_round();
-    let function = &loaded.functions.as_slice()[number as usize];
-    let site = Site {
-        image: &loaded.image,
-        entry: function.entry,
-        size: function.size,
-    };
-    match first_failing(alloc, loaded, &site, table.states.as_slice())? {
+    match first_failing(alloc, loaded, site, table.states.as_slice())? {
         Some((at, check)) => Ok(unsafe_at(table.entry, at, check)),
         None => Ok(Finding::Safe(table)),
     }

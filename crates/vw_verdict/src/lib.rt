@@ -6,7 +6,7 @@ mod failing;
 mod function;
 mod module;
 
-pub use module::judge;
+pub use module::{find_place, judge};
 
 #[cfg(test)]
 mod tests;

@@ -1,6 +1,9 @@
-ghost use Rattle.std.specs.Prelude.{◌+◌, ◌≤◌, sum_by, IfOk};
+ghost use Rattle.std.specs.Prelude.{◌+◌, ◌≤◌, sum_by, IfOk, OnOk};
 ghost use Rattle.vw_layout.specs.Layout.{IsWhole};
-ghost use Rattle.vw_verdict.specs.Verdicts.{IsVerdict};
+ghost use Rattle.vw_state.specs.Context.{context_of};
+ghost use Rattle.vw_state.specs.Laws.{tick_limit};
+ghost use Rattle.vw_verdict.specs.Findings.{IsJudged, Keeps};
+ghost use Rattle.vw_verdict.specs.Verdicts.{IsVerdict, IsJudgement};
 
 use crate::function::{Finding, judge_function};
 use std::alloc::Global;
@@ -9,18 +12,17 @@ use vw_bits::{List, OutOfMemory};
 use vw_checks::{least_table_is_safe, stops_are_checks};
 use vw_layout::{Module, functions_ascend};
 use vw_solver::Steps;
-use vw_state::{Tables, Verdict};
+use vw_state::{
+    FunctionTable, Place, Tables, Verdict, codes_are_bytes, lengths_of, sites_are_in_range,
+    tables_of,
+};
 
 /// The verdict on a module. Safe, with the least tables, exactly where every declared function has a safe
 /// table: a solution of its equations at whose points no check fails. Else Unsafe, with the place of the first
 /// function by address that has one: the lowest point of its least table at which check 1 or 2 fails, or, where
 /// neither fails, the lowest at which another check fails, with the lowest number there. It counts a step for
-/// each evaluation of a point: for each function at most one more than its size, whatever the answer.
-/// OutOfMemory where the allocator refuses a request; then only the steps have changed.
-///
-/// No function passes that has an instruction whose meaning is not judged yet: where another than NOP, UD2, RET, direct
-/// JMP, Jcc, and MOV of 32 bits between EAX and memory at RDI without an index stands at a point of the table, a check
-/// fails there.
+/// each evaluation of a point: for each function each of its points at most once more than a state can rise, whatever the
+/// answer. OutOfMemory where the allocator refuses a request; then only the steps have changed.
 pub fn judge<L: Ledger>(
     alloc: Global,
     loaded: &Module,
@@ -28,21 +30,79 @@ pub fn judge<L: Ledger>(
 ) -> Result<Verdict, OutOfMemory>
     requires { IsWhole loaded.now }
     ensures judged { IfOk result (IsVerdict loaded.now) }
-    ensures ticks { steps.new ≤ steps.old + sum_by (λ f. f.size + 1) loaded.now.functions }
+    ensures ticks { steps.new ≤ steps.old
+        + sum_by (λ f. tick_limit (context_of loaded.now f)) loaded.now.functions }
+    ensures counts { steps.old ≤ steps.new }
+{
+    judge_each(alloc, loaded, true, steps)
+}
+
+/// The same without the tables, of which one is held at a time: the place of a module that is not safe, and `None`
+/// exactly where every declared function has a safe table.
+pub fn find_place<L: Ledger>(
+    alloc: Global,
+    loaded: &Module,
+    steps: &mut Steps<L>,
+) -> Result<Option<Place>, OutOfMemory>
+    requires { IsWhole loaded.now }
+    ensures judged { IfOk result (IsJudgement loaded.now) }
+    ensures ticks { steps.new ≤ steps.old
+        + sum_by (λ f. tick_limit (context_of loaded.now f)) loaded.now.functions }
+    ensures counts { steps.old ≤ steps.new }
+{
+    match judge_each(alloc, loaded, false, steps)? {
+        Verdict::Safe(_) => Ok(None),
+        Verdict::Unsafe(place) => Ok(Some(place)),
+    }
+}
+
+// The verdict, function by function, with the least tables where they are to be kept and else without.
+fn judge_each<L: Ledger>(
+    alloc: Global,
+    loaded: &Module,
+    keeps: bool,
+    steps: &mut Steps<L>,
+) -> Result<Verdict, OutOfMemory>
+    requires { IsWhole loaded.now }
+    ensures judged { IfOk result (IsJudged keeps loaded.now) }
+    ensures ticks { steps.new ≤ steps.old
+        + sum_by (λ f. tick_limit (context_of loaded.now f)) loaded.now.functions }
     ensures counts { steps.old ≤ steps.new }
 {
     functions_ascend();
     least_table_is_safe();
     stops_are_checks();
+    sites_are_in_range(loaded);
+    codes_are_bytes(loaded);
+    let extents = tables_of(alloc, loaded)?;
+    let lengths = lengths_of(alloc, loaded)?;
     let functions = loaded.functions.as_slice();
     let mut tables = List::new(alloc);
     let mut number = 0;
     while number < functions.len() {
-        match judge_function(alloc, loaded, number as u32, steps)? {
-            Finding::Safe(table) => tables.push(table)?,
+        match judge_function(
+            alloc,
+            loaded,
+            &extents,
+            lengths.as_slice(),
+            number as u32,
+            steps,
+        )? {
+            Finding::Safe(table) => keep(keeps, &mut tables, table)?,
             Finding::Unsafe(place) => return Ok(Verdict::Unsafe(place)),
         }
         number += 1;
     }
     Ok(Verdict::Safe(Tables { functions: tables }))
+}
+
+// Appends a table where tables are to be kept.
+fn keep(
+    keeps: bool,
+    tables: &mut List<FunctionTable>,
+    table: FunctionTable,
+) -> Result<(), OutOfMemory>
+    ensures { OnOk result (Keeps keeps tables.old table tables.new) }
+{
+    if keeps { tables.push(table) } else { Ok(()) }
 }

@@ -50,7 +50,7 @@ const FILE: [Patch; 28] = [
 /// check fails, and where none does the points of the least table.
 type Case = (u64, u64, Option<(u32, u8)>, &'static [u32]);
 
-const CASES: [Case; 18] = [
+const CASES: [Case; 19] = [
     (0xc3, 1, None, &[0]),
     (0x0b0f, 2, None, &[0]),
     // a branch to itself, a jump to itself
@@ -73,8 +73,10 @@ const CASES: [Case; 18] = [
     // check 4 at a point that no run comes to
     (0xf847_8b_03eb, 5, Some((0, 2)), &[]),
     (0xc3f8_478b_03eb, 6, None, &[0, 5]),
-    // what this version cannot judge: an addition, a call, a jump through a register
-    (0xc3_c001_48, 4, Some((0, 4)), &[]),
+    // an addition, and an access at its sum
+    (0xc3_c001_48, 4, None, &[0, 3]),
+    (0xc3_008b_c001_48, 6, Some((3, 4)), &[]),
+    // a call of no function, and what this version cannot judge: a jump through a register
     (0xc3_0000_0000_e8, 6, Some((0, 7)), &[]),
     (0xe0ff_90, 3, Some((1, 2)), &[]),
 ];

@@ -1,11 +1,14 @@
-use Rattle.vw_checks.proofs.Rising.{fails_rise}
+use Rattle.std.proofs.Common.{arith}
+use Rattle.vw_checks.proofs.Rising.{passes_rise, first_rise}
 use Rattle.vw_checks.proofs.laws.lower_states_pass.Goals as goal
 
 pub returns-clause-passes : goal.returns-clause-passes
-returns-clause-passes c = λ f at low high below passes number fails. passes number (fails_rise f at low high below number fails)
+returns-clause-passes c =
+    passes_rise c.statements_are_sound.ensures.rise c.statements_are_sound.ensures.forms c.statements_are_sound.ensures.checks c.transfer_checks_rise.ensures.transfers c.transfer_checks_rise.ensures.values
+    c.states_have_forms.ensures.forms c.forms_tell_states.ensures.order c.statements_have_displacements.ensures
 
 pub returns-clause-code : goal.returns-clause-code
-returns-clause-code c = λ f at low high below passes fails. passes (fails_rise f at low high below 1 fails)
+returns-clause-code c = λ f at low high below passes fails. passes (first_rise f at low high 1 (omega arith) fails)
 
 pub returns-clause-jump : goal.returns-clause-jump
-returns-clause-jump c = λ f at low high below passes fails. passes (fails_rise f at low high below 2 fails)
+returns-clause-jump c = λ f at low high below passes fails. passes (first_rise f at low high 2 (omega arith) fails)

@@ -1,4 +1,4 @@
-use Rattle.vw_checks.proofs.Passing.{covered}
+use Rattle.vw_checks.proofs.Built.{covered}
 use Rattle.vw_checks.proofs.laws.passing_code_is_covered.Goals as goal
 
 pub returns : goal.returns

@@ -1,4 +1,4 @@
-use Rattle.std.proofs.Common.{◌≡◌, ◌∙◌, ℕ, ◌+◌, ◌≤◌, arith}
+use Rattle.std.proofs.Common.{◌∙◌, arith}
 use Rattle.vw_graph.proofs.Gathered.{gather_more, later_kept}
 use Rattle.vw_graph.proofs.solved.point_states.Goals as goal
 

@@ -4,6 +4,6 @@ use Rattle.vw_sandbox.proofs.Choices.{StandsAlone, by_choices, by_states}
 use Rattle.vw_sandbox.proofs.laws.sandboxed_by_choices.Goals as goal
 
 pub returns : goal.returns
-returns c m tables =
+returns c m map =
     let alone : (w : World) → IsLaidOut m.image m.imports w → StandsAlone m w = λ w laid rip active one other a b. c.one_thing_stands.ensures m w rip active one other laid a b in
-    (by_choices m tables alone, by_states m tables alone)
+    (by_choices m map alone, by_states m map alone)

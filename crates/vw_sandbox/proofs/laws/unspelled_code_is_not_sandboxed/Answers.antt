@@ -8,7 +8,7 @@ use Rattle.vw_sandbox.proofs.laws.unspelled_code_is_not_sandboxed.Goals as goal
 
 pub returns : goal.returns
 unfolding module_of
-returns c file tables f is listed nothing sandboxed =
+returns c file map f is listed nothing sandboxed =
     let laws : Laws = record {
       code = c.functions_are_code.ensures;
       settled = c.code_is_settled.ensures;
@@ -16,7 +16,7 @@ returns c file tables f is listed nothing sandboxed =
       bounded = c.segments_are_bounded.ensures;
       sized = c.code_has_its_size.ensures;
     } in
-    not_sandboxed (module_of file) tables f (code_at (image_of file) f.entry f.size)
+    not_sandboxed (module_of file) map f (code_at (image_of file) f.entry f.size)
     (limited c.segments_are_bounded.ensures c.imports_are_few.ensures file is)
     (holds_code laws file is f listed)
     (λ g of_file same. one_by_entry (declared_functions file) (λ j k h i. c.functions_ascend.ensures.ascend file j k h i is) f g listed of_file same)

@@ -16,3 +16,6 @@ returns-in-Stopped-clause-found g c = λ f is.
     let known = rw c.in-Stopped.is at c.in_ok-table.ensures.rounds in
     let r = known f is in
     subst (λ (o : Finding). Found (context_of c.args.loaded.now f) o) (sym c.unsafe_at.ensures) (r.entry_is, stops r.number r.pairs c.in-Stopped.table.states r.round r.ends)
+
+pub judge_table-requires-clause-fit : goal.judge_table-requires-clause-fit
+judge_table-requires-clause-fit g c = rw c.in-Stable.is at c.in_ok-table.ensures.fit

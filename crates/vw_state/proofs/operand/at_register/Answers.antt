@@ -1,0 +1,5 @@
+use Rattle.vw_state.proofs.operand.at_register.Goals as goal
+
+pub by_base-requires : goal.by_base-requires
+by_base-requires c =
+    rw (c.register-register.ensures.offset, c.register-register.ensures.value) (c.is_state.ensures.registers.registers c.args.r).offset

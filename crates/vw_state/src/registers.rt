@@ -1,0 +1,106 @@
+ghost use Rattle.std.specs.Prelude.{◌≡◌, ◌<◌, ℕ, None, List};
+ghost use Rattle.vw_insn.specs.Words.{number, word_of};
+ghost use Rattle.vw_values.specs.Values.{IsValue, IsAmong};
+ghost use Rattle.vw_domain.specs.Abstract.{abstract_of};
+ghost use Rattle.vw_domain.specs.Addresses.{value_of};
+ghost use Rattle.vw_domain.specs.Changes.{write};
+ghost use Rattle.vw_domain.specs.FormLaws.{IsDisplacement};
+ghost use Rattle.vw_domain.specs.Operands.{index_of, operand_of, operand_offset};
+ghost use Rattle.vw_domain.specs.Registers.{IsRegister};
+ghost use Rattle.vw_domain.specs.State.{Fits, plain_register};
+
+use vw_domain::{Register, State};
+use vw_insn::{Mem, Reg};
+use vw_stack::Offset;
+use vw_stmt::{Operand, Var};
+use vw_values::Value;
+
+// The number of a register.
+pub fn register_number(reg: Reg) -> u8
+    ensures number { result ≡ number reg }
+    ensures below { result < 16 }
+{
+    match reg {
+        Reg::Rax => 0,
+        Reg::Rcx => 1,
+        Reg::Rdx => 2,
+        Reg::Rbx => 3,
+        Reg::Rsp => 4,
+        Reg::Rbp => 5,
+        Reg::Rsi => 6,
+        Reg::Rdi => 7,
+        Reg::R8 => 8,
+        Reg::R9 => 9,
+        Reg::R10 => 10,
+        Reg::R11 => 11,
+        Reg::R12 => 12,
+        Reg::R13 => 13,
+        Reg::R14 => 14,
+        Reg::R15 => 15,
+    }
+}
+
+// A register's number; tmp counts as number 16.
+pub fn number_of(var: Var) -> u8
+    ensures number { result ≡ index_of var }
+    ensures below { result < 17 }
+{
+    match var {
+        Var::Reg(reg) => register_number(reg),
+        Var::Tmp => 16,
+    }
+}
+
+// A signed number as a word.
+pub fn word_of(number: i32) -> u64
+    ensures { result ≡ word_of number }
+{
+    i64::from(number).cast_unsigned()
+}
+
+// A memory operand's displacement.
+pub fn displacement(mem: &Mem) -> i32
+    ensures is { result ≡ mem.now.disp }
+    ensures small { IsDisplacement mem.now.disp }
+{
+    mem.disp
+}
+
+// A register that holds this value, at no known distance.
+pub fn plain(value: Value) -> Register
+    ensures { result ≡ plain_register value }
+{
+    Register {
+        offset: Offset::Unknown,
+        value,
+    }
+}
+
+// What is known of a register, or of tmp.
+pub fn known_of(state: &State, var: Var) -> Register
+    ensures value { result.value ≡ value_of (abstract_of state.now) (index_of var) }
+    ensures offset { result.offset ≡ (abstract_of state.now).offsets (index_of var) }
+{
+    state.register(number_of(var))
+}
+
+// What is known of an operand.
+pub fn operand_known(state: &State, operand: Operand) -> Register
+    ensures value { result.value ≡ operand_of (abstract_of state.now) operand }
+    ensures offset { result.offset ≡ operand_offset (abstract_of state.now) operand }
+{
+    match operand {
+        Operand::Var(var) => known_of(state, var),
+        Operand::Imm(number) => plain(Value::Const(word_of(number))),
+    }
+}
+
+// Puts into a register, or into tmp, a number that no other place has, of which `known` tells. Takes no memory.
+pub fn put(state: &mut State, dst: Var, known: Register)
+    requires { IsRegister known }
+    ensures form { abstract_of state.new
+        ≡ write (abstract_of state.old) (index_of dst) None known.value known.offset }
+    ensures fits { (b : List ℕ) → Fits b state.old → IsAmong b known.value → Fits b state.new }
+{
+    state.write(number_of(dst), known);
+}
