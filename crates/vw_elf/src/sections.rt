@@ -10,7 +10,7 @@ use std::alloc::Global;
 use vw_bits::{List, OutOfMemory};
 
 /// A section of symbols (gABI, "Symbol Table": SHT_SYMTAB or SHT_DYNSYM) and its string table.
-#[derive(Clone, Copy, Debug, PartialEq, Eq)]
+#[derive(Clone, Copy, Debug, PartialEq, Eq, Hash)]
 pub struct SymbolSection {
     /// The file offset of the first symbol.
     pub offset: u64,

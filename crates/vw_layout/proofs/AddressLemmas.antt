@@ -6,6 +6,7 @@ use Rattle.std.specs.Ordering.{nat_cmp, match_ordering}
 use Rattle.std.specs.Map.{keys_of}
 use Rattle.std.specs.BTreeMap.{insert_entry, is_at}
 use Rattle.std.specs.BTreeSet.{insert_key}
+use Rattle.std.proofs.lemmas.Bool.{false≢true}
 use Rattle.std.proofs.lemmas.Bool.Decides.{nat_tests, eqb_tells}
 use Rattle.std.proofs.lemmas.List.{map-append}
 use Rattle.std.proofs.lemmas.List.Sums.{fold-append}
@@ -130,6 +131,39 @@ Rises-fold (n ∷ ns) before rises = Rises-fold ns (placed before n) (Rises-plac
 pub Rises-addresses : (xs : List SymbolEntry) → Rises 0 (addresses_of xs)
 unfolding addresses_of ascending
 Rises-addresses xs = Rises-fold (map (λ s. s.symbol.value) xs) [] tt
+
+-- a number among those that rise from `low` is not below it
+any_low : (low : ℕ) (ns : List ℕ) (n : ℕ) → Rises low ns → list_any (λ k. k == n) ns ≡ true → low ≤ n
+any_low low [] n rises some = absurd (false≢true some)
+any_low low (m ∷ ms) n rises some = low_step low m n (m == n) (list_any (λ k. k == n) ms) refl rises.0 some (any_low (m + 1) ms n rises.1)
+  where
+    low_step : (low m n : ℕ) (same rest : Bool) → (m == n) ≡ same → low ≤ m → (same || rest) ≡ true → (rest ≡ true → m + 1 ≤ n) → low ≤ n
+    low_step low m n true rest is below some behind = let e : m ≡ n = grind (arith, nat_tests, is) in omega (arith, e)
+    low_step low m n false rest is below some behind = omega (arith, behind some)
+
+-- a number that stands there is not put there again
+pub placed_old : (low : ℕ) (ns : List ℕ) (n : ℕ) → Rises low ns → list_any (λ k. k == n) ns ≡ true → placed ns n ≡ ns
+placed_old low [] n rises some = absurd (false≢true some)
+placed_old low (m ∷ ms) n rises some =
+    old_step n m ms (placed ms n) (nat_lt n m) (n == m) refl refl some (any_low (m + 1) ms n rises.1) (placed_old (m + 1) ms n rises.1)
+  where
+    unequal : (n m : ℕ) → (n == m) ≡ false → (m == n) ≡ false
+    unequal n m apart = grind (arith, nat_tests, apart)
+
+    rest_of : (same rest : Bool) → same ≡ false → (same || rest) ≡ true → rest ≡ true
+    rest_of true rest is some = cc
+    rest_of false rest is some = some
+
+    below : (n m : ℕ) → nat_lt n m ≡ true → n < m
+    below n m less = grind (arith, nat_tests, less)
+
+    old_step : (n m : ℕ) (ms ns : List ℕ) (less same : Bool) → nat_lt n m ≡ less → (n == m) ≡ same → list_any (λ k. k == n) (m ∷ ms) ≡ true → (list_any (λ k. k == n) ms ≡ true → m + 1 ≤ n) → (list_any (λ k. k == n) ms ≡ true → ns ≡ ms) → cond less (n ∷ m ∷ ms) (cond same (m ∷ ms) (m ∷ ns)) ≡ m ∷ ms
+    old_step n m ms ns true same less is some behind old =
+        let low = below n m less in
+        let apart : (m == n) ≡ false = grind (arith, nat_tests, low) in
+        absurd (omega (arith, low, behind (rest_of (m == n) (list_any (λ k. k == n) ms) apart some)))
+    old_step n m ms ns false true less is some behind old = refl
+    old_step n m ms ns false false less is some behind old = ap (λ (ks : List ℕ). m ∷ ks) (old (rest_of (m == n) (list_any (λ k. k == n) ms) (unequal n m is) some))
 
 -- each number of such a list is above those before it
 from_low : (low : ℕ) (ns : List ℕ) (j : ℕ) → Rises low ns → j < length ns → low ≤ get_or ns j 0

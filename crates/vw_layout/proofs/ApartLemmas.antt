@@ -1,6 +1,6 @@
 -- What rules 30 and 31 give of the declared functions: by ascending address they share no byte, and there are
 -- at most 65,536.
-use Rattle.std.proofs.Common.{◌≡◌, ℕ, zero, suc, ◌+◌, ◌≤◌, ◌<◌, ◌==◌, ◌||◌, ◌&&◌, Bool, true, false, not, cond, nat_le, nat_lt, List, [], ◌∷◌, ◌++◌, length, get_or, take, map, Option, Some, None, option_map, refl, sym, ap, ◌∙◌, arith, append_assoc}
+use Rattle.std.proofs.Common.{◌≡◌, ℕ, zero, suc, ◌+◌, ◌≤◌, ◌<◌, ◌==◌, ◌&&◌, Bool, true, false, not, cond, nat_le, nat_lt, List, [], ◌∷◌, ◌++◌, length, get_or, take, map, Option, Some, None, option_map, refl, sym, ◌∙◌, arith, append_assoc}
 use Rattle.std.specs.List.{find, filter_map, cons_option, list_any, slice_get}
 use Rattle.std.proofs.lemmas.Bool.{false≢true}
 use Rattle.std.proofs.lemmas.Bool.Decides.{nat_tests}
@@ -15,7 +15,7 @@ use Rattle.vw_layout.specs.Functions.{symbol_offset, placed, addresses_of, by_ad
 use Rattle.vw_layout.specs.Layout.{layout_fault, layout_rules, IsModule, declared_functions, function_symbols}
 use Rattle.vw_layout.specs.declared.symbols.SymbolEntry.{SymbolEntry}
 use Rattle.vw_layout.specs.declared.functions.Function.{Function}
-use Rattle.vw_layout.proofs.AddressLemmas.{Rises-addresses, Rises-by_address, addresses-more, addresses-none, any_address}
+use Rattle.vw_layout.proofs.AddressLemmas.{Rises-addresses, Rises-by_address, addresses-more, addresses-none, any_address, placed_old}
 use Rattle.vw_layout.proofs.OverlapLemmas.{ordered}
 use Rattle.vw_layout.proofs.ShortLemmas.{passed, unfound}
 use Rattle.vw_layout.proofs.CodeLemmas.{layout_holds}
@@ -100,39 +100,6 @@ entries_ascend file j k f g is first second before =
     rw (one.1, two.1) (ordered symbols j k blank (Rises-by_address (function_symbols file)) before two.0)
 
 -- there are few functions
-
--- a number among those that rise from `low` is not below it
-any_low : (low : ℕ) (ns : List ℕ) (n : ℕ) → Rises low ns → list_any (λ k. k == n) ns ≡ true → low ≤ n
-any_low low [] n rises some = absurd (false≢true some)
-any_low low (m ∷ ms) n rises some = low_step low m n (m == n) (list_any (λ k. k == n) ms) refl rises.0 some (any_low (m + 1) ms n rises.1)
-  where
-    low_step : (low m n : ℕ) (same rest : Bool) → (m == n) ≡ same → low ≤ m → (same || rest) ≡ true → (rest ≡ true → m + 1 ≤ n) → low ≤ n
-    low_step low m n true rest is below some behind = let e : m ≡ n = grind (arith, nat_tests, is) in omega (arith, e)
-    low_step low m n false rest is below some behind = omega (arith, behind some)
-
--- a number that stands there is not put there again
-placed_old : (low : ℕ) (ns : List ℕ) (n : ℕ) → Rises low ns → list_any (λ k. k == n) ns ≡ true → placed ns n ≡ ns
-placed_old low [] n rises some = absurd (false≢true some)
-placed_old low (m ∷ ms) n rises some =
-    old_step n m ms (placed ms n) (nat_lt n m) (n == m) refl refl some (any_low (m + 1) ms n rises.1) (placed_old (m + 1) ms n rises.1)
-  where
-    unequal : (n m : ℕ) → (n == m) ≡ false → (m == n) ≡ false
-    unequal n m apart = grind (arith, nat_tests, apart)
-
-    rest_of : (same rest : Bool) → same ≡ false → (same || rest) ≡ true → rest ≡ true
-    rest_of true rest is some = cc
-    rest_of false rest is some = some
-
-    below : (n m : ℕ) → nat_lt n m ≡ true → n < m
-    below n m less = grind (arith, nat_tests, less)
-
-    old_step : (n m : ℕ) (ms ns : List ℕ) (less same : Bool) → nat_lt n m ≡ less → (n == m) ≡ same → list_any (λ k. k == n) (m ∷ ms) ≡ true → (list_any (λ k. k == n) ms ≡ true → m + 1 ≤ n) → (list_any (λ k. k == n) ms ≡ true → ns ≡ ms) → cond less (n ∷ m ∷ ms) (cond same (m ∷ ms) (m ∷ ns)) ≡ m ∷ ms
-    old_step n m ms ns true same less is some behind old =
-        let low = below n m less in
-        let apart : (m == n) ≡ false = grind (arith, nat_tests, low) in
-        absurd (omega (arith, low, behind (rest_of (m == n) (list_any (λ k. k == n) ms) apart some)))
-    old_step n m ms ns false true less is some behind old = refl
-    old_step n m ms ns false false less is some behind old = ap (λ (ks : List ℕ). m ∷ ks) (old (rest_of (m == n) (list_any (λ k. k == n) ms) (unequal n m is) some))
 
 length-placed : (ns : List ℕ) (n : ℕ) → length (placed ns n) ≤ length ns + 1
 length-placed [] n = omega arith

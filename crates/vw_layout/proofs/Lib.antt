@@ -1,6 +1,7 @@
 pub mod FaultLemmas
 pub mod SymbolLemmas
 pub mod AddressLemmas
+pub mod DistinctLemmas
 pub mod OverlapLemmas
 pub mod ShortLemmas
 pub mod TableLemmas

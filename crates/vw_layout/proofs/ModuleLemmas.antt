@@ -17,7 +17,7 @@ use Rattle.vw_dynamic.proofs.BoundLemmas.{AreBounded-from_rules, length-from_rul
 use Rattle.vw_image.specs.Image.{Contents, image_of, IsImage}
 use Rattle.vw_layout.specs.Bounds.{IsShort, AreShort}
 use Rattle.vw_layout.specs.Faults.{Names, Tells}
-use Rattle.vw_layout.specs.Symbols.{symbols_for}
+use Rattle.vw_layout.specs.Symbols.{symbols_for, distinct_sections}
 use Rattle.vw_layout.specs.Functions.{by_address, function_of, functions_of, function_rules}
 use Rattle.vw_layout.specs.Tables.{table_rules, tables_of}
 use Rattle.vw_layout.specs.Spans.{Ascend}
@@ -29,6 +29,7 @@ use Rattle.vw_layout.specs.declared.layout.Module.{Module}
 use Rattle.vw_layout.specs.declared.faults.ModuleError.{ModuleError}
 use Rattle.vw_layout.specs.declared.faults.ModuleError.TheVariants.{Malformed, Memory}
 use Rattle.vw_layout.proofs.AddressLemmas.{Rises-by_address, Rises-place, All-by_address}
+use Rattle.vw_layout.proofs.DistinctLemmas.{AreAlike, alike_distinct, rules_alike, functions_alike, table_rules_alike, tables_alike}
 use Rattle.vw_layout.proofs.ShortLemmas.{AreShort-from_rules}
 use Rattle.vw_layout.proofs.FaultLemmas.{names_here, names_front, names_behind, holds_next, holds_append}
 
@@ -117,21 +118,25 @@ module _ (bytes : List ℕ) where
   unfolding layout_fault
   none_broken found functions tables is none = holds_append 27 36 (fs ++ ts) (late ∷ []) (both functions tables) nine (holds_next 36 found late [] is none refl)
 
--- the same of equal bytes, segments and sections
-pub function_rules_same : (b b' : List ℕ) (s s' : List Segment) (x x' : List SymbolSection) → b ≡ b' → s ≡ s' → x ≡ x' → function_rules b s (symbols_for b x role.Function) ≡ function_rules b' s' (symbols_for b' x' role.Function)
-function_rules_same b b' s s' x x' bytes segments sections = rw (bytes, segments, sections) refl
+-- the same of equal bytes and segments, and of sections each of which is taken once
+pub function_rules_same : (b b' : List ℕ) (s s' : List Segment) (x x' : List SymbolSection) → b ≡ b' → s ≡ s' → x ≡ distinct_sections x' → function_rules b s (symbols_for b x role.Function) ≡ function_rules b' s' (symbols_for b' x' role.Function)
+function_rules_same b b' s s' x x' bytes segments sections =
+    rw (bytes, segments, sections) (sym (rules_alike b' s' (symbols_for b' x' role.Function) (symbols_for b' (distinct_sections x') role.Function) (alike_distinct b' x' role.Function)))
 
-pub functions_same : (b b' : List ℕ) (x x' : List SymbolSection) → b ≡ b' → x ≡ x' → functions_of b (symbols_for b x role.Function) ≡ functions_of b' (symbols_for b' x' role.Function)
-functions_same b b' x x' bytes sections = rw (bytes, sections) refl
+pub functions_same : (b b' : List ℕ) (x x' : List SymbolSection) → b ≡ b' → x ≡ distinct_sections x' → functions_of b (symbols_for b x role.Function) ≡ functions_of b' (symbols_for b' x' role.Function)
+functions_same b b' x x' bytes sections =
+    rw (bytes, sections) (sym (functions_alike b' (symbols_for b' x' role.Function) (symbols_for b' (distinct_sections x') role.Function) (alike_distinct b' x' role.Function)))
 
-pub tables_symbols_same : (b b' : List ℕ) (x x' : List SymbolSection) → b ≡ b' → x ≡ x' → symbols_for b x role.Tables ≡ symbols_for b' x' role.Tables
-tables_symbols_same b b' x x' bytes sections = rw (bytes, sections) refl
+pub tables_symbols_same : (b b' : List ℕ) (x x' : List SymbolSection) (symbols : List SymbolEntry) → b ≡ b' → x ≡ distinct_sections x' → symbols ≡ symbols_for b x role.Tables → AreAlike (symbols_for b' x' role.Tables) symbols
+tables_symbols_same b b' x x' symbols bytes sections are =
+    let same : symbols ≡ symbols_for b' (distinct_sections x') role.Tables = are ∙ rw (bytes, sections) refl in
+    subst (λ (ys : List SymbolEntry). AreAlike (symbols_for b' x' role.Tables) ys) (sym same) (alike_distinct b' x' role.Tables)
 
-pub table_rules_same : (i i' : Contents) (f f' : List Function) (s s' : List SymbolEntry) → i ≡ i' → f ≡ f' → s ≡ s' → table_rules i f s ≡ table_rules i' f' s'
-table_rules_same i i' f f' s s' image functions symbols = rw (image, functions, symbols) refl
+pub table_rules_same : (i i' : Contents) (f f' : List Function) (s s' : List SymbolEntry) → i ≡ i' → f ≡ f' → AreAlike s' s → table_rules i f s ≡ table_rules i' f' s'
+table_rules_same i i' f f' s s' image functions symbols = rw (image, functions) (sym (table_rules_alike i' f' s' s symbols))
 
-pub tables_same : (i i' : Contents) (s s' : List SymbolEntry) → i ≡ i' → s ≡ s' → tables_of i s ≡ tables_of i' s'
-tables_same i i' s s' image symbols = rw (image, symbols) refl
+pub tables_same : (i i' : Contents) (s s' : List SymbolEntry) → i ≡ i' → AreAlike s' s → tables_of i s ≡ tables_of i' s'
+tables_same i i' s s' image symbols = rw image (sym (tables_alike i' s' s symbols))
 
 -- the answer of the rules behind the first 26
 pub module_of : (bytes : List ℕ) (image : Contents) (r : Result Module ModuleError) → image ≡ image_of bytes → header_fault bytes ≡ None → dynamic_fault bytes ≡ None → IfOk r (λ m. m.image ≡ image) → IfOk r (λ m. m.functions ≡ declared_functions image.bytes) → IfOk r (λ m. m.tables ≡ declared_tables image.bytes) → OnOk r (layout_fault image.bytes ≡ None) → IfOk r (IsModuleOf bytes)

@@ -1,6 +1,6 @@
 -- The symbols of a file, with their names (System V gABI, "Symbol Table", "String Table").
-use Rattle.std.specs.Prelude.{ℕ, Bool, false, ◌&&◌, ◌==◌, nat_le, List, length, take, drop, map, filter, Option, Some, None, option_and_then, codes, if◌then◌else◌}
-use Rattle.std.specs.List.{flat_map}
+use Rattle.std.specs.Prelude.{ℕ, Bool, false, ◌&&◌, ◌==◌, nat_le, List, [], ◌∷◌, ◌++◌, length, take, drop, map, fold, filter, Option, Some, None, option_and_then, codes, if◌then◌else◌}
+use Rattle.std.specs.List.{flat_map, list_any}
 use Rattle.std.specs.Option.{option_map_or}
 use Rattle.std.specs.Str.{bytes_eq}
 use Rattle.vw_bits.specs.Headers.{table}
@@ -22,6 +22,18 @@ entry_at bytes section at = record {
 -- the symbols of a section, by their indices from 0 on
 unfoldable pub section_symbols : List ℕ → SymbolSection → List SymbolEntry
 section_symbols bytes section = map (entry_at bytes section) (table section.offset 24 section.count)
+
+-- a section has the symbols and the string table of another
+abbrev pub is_same_section : SymbolSection → SymbolSection → Bool
+is_same_section a b = a.offset == b.offset && (a.count == b.count && (a.strings_at == b.strings_at && a.strings_size == b.strings_size))
+
+-- a section behind those that are there, where it is new
+abbrev pub with_section : List SymbolSection → SymbolSection → List SymbolSection
+with_section sections s = if list_any (is_same_section s) sections then sections else sections ++ s ∷ []
+
+-- sections, each once, in the order of their first headers
+unfoldable pub distinct_sections : List SymbolSection → List SymbolSection
+distinct_sections sections = fold with_section [] sections
 
 -- the symbols of sections, by section and then by index
 unfoldable pub symbols_of : List ℕ → List SymbolSection → List SymbolEntry

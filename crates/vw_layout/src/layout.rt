@@ -8,12 +8,13 @@ ghost use Rattle.vw_dynamic.specs.Dynamic.{dynamic_fault, file_relocations, file
 ghost use Rattle.vw_image.specs.Stubs.{IsBound};
 ghost use Rattle.vw_layout.specs.Faults.{Names};
 ghost use Rattle.vw_layout.specs.Calls.{call_target, module_stub, is_probe};
+ghost use Rattle.vw_layout.specs.Symbols.{distinct_sections};
 ghost use Rattle.vw_layout.specs.Layout.{declared_functions, declared_tables, is_late, import_rule, layout_fault, module_fault, IsModuleOf, IsWhole};
 
 use crate::calls::{call_target, is_probe, module_stub, number_at};
 use crate::faults::refuse;
 use crate::functions::read_functions;
-use crate::symbols::{Role, read_symbols};
+use crate::symbols::{Role, distinct_sections, read_symbols};
 use crate::tables::read_tables;
 use crate::{CallTarget, Function, ModuleError, TableInfo};
 use std::alloc::Global;
@@ -51,7 +52,10 @@ impl Module {
         )?;
         let late = first_late(dynamic.relocations.as_slice());
         let image = Image::build(alloc, bytes, elf.segments, dynamic).map_err(ModuleError::Memory)?;
-        read_layout(alloc, image, elf.symbols.as_slice(), late)
+        let sections = distinct_sections(alloc, elf.symbols.as_slice()).map_err(
+            ModuleError::Memory,
+        )?;
+        read_layout(alloc, image, sections.as_slice(), late)
     }
 
     /// The number of the function that begins at an address, counted from 0 by ascending address; `None`
@@ -165,14 +169,15 @@ fn is_late(kind: RelKind) -> bool
     }
 }
 
-// Rules 27 to 36, of a file with this image. `late` is what breaks rule 36.
+// Rules 27 to 36, of a file with this image and these sections of symbols, each once. `late` is what breaks
+// rule 36.
 fn read_layout(
     alloc: Global,
     image: Image,
     sections: &[SymbolSection],
     late: Option<u64>,
 ) -> Result<Module, ModuleError>
-    requires sections { sections.now ≡ symbol_sections image.bytes }
+    requires sections { sections.now ≡ distinct_sections (symbol_sections image.bytes) }
     requires late { late ≡ import_rule image.relocations }
     ensures image { IfOk result (λ m. m.image ≡ image) }
     ensures functions { IfOk result (λ m. m.functions ≡ declared_functions image.bytes) }

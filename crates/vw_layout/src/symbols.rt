@@ -1,9 +1,10 @@
 ghost use Rattle.std.specs.Prelude.{◌≡◌, ◌+◌, ◌*◌, ◌≤◌, ◌++◌, length, take, drop, filter, option_copied, IfOk, OnOk};
 ghost use Rattle.vw_bits.specs.Symbols.{is_defined};
 ghost use Rattle.vw_layout.specs.Bounds.{AreInside};
-ghost use Rattle.vw_layout.specs.Symbols.{entry_at, section_symbols, symbols_for, strings_of, name_of, short_string, is_function, is_tables_symbol, has_role};
+ghost use Rattle.vw_layout.specs.Symbols.{distinct_sections, entry_at, section_symbols, symbols_for, strings_of, name_of, short_string, is_function, is_tables_symbol, has_role};
 
 use crate::fields::{u8_at, u16_at, u32_at, u64_at};
+use indexmap::IndexSet;
 use std::alloc::Global;
 use vw_bits::{OutOfMemory, Symbol};
 use vw_elf::SymbolSection;
@@ -41,6 +42,21 @@ const SHN_LAST: u16 = 65_279;
 const MAX_NAME: usize = 1024;
 
 const TABLES_NAME: &[u8] = b"lucet_tables";
+
+// The sections, each once, in the order of their first headers: those with the same symbols and the same string
+// table give nothing new, and a file can have thousands of them.
+pub(crate) fn distinct_sections(
+    alloc: Global,
+    sections: &[SymbolSection],
+) -> Result<IndexSet<SymbolSection>, OutOfMemory>
+    ensures { IfOk result (λ set. set.keys ≡ distinct_sections sections.now) }
+{
+    let mut set = IndexSet::new(alloc);
+    for section in sections {
+        set.insert(*section)?;
+    }
+    Ok(set)
+}
 
 // The symbols of one role, by section and then by index.
 pub(crate) fn read_symbols(

@@ -1,4 +1,4 @@
-ghost use Rattle.std.specs.Prelude.{◌≡◌, ◌+◌, ◌*◌, ◌≤◌, ◌^◌, ◌&&◌, true, not, map, length, option_map, None, IfOk, IfErr, OnOk};
+ghost use Rattle.std.specs.Prelude.{◌≡◌, ◌+◌, ◌*◌, ◌≤◌, ◌^◌, ◌&&◌, true, not, map, length, option_map, None, IfOk, IfErr, IfSome, OnOk, is_some};
 ghost use Rattle.std.specs.List.{find, list_any, flat_map};
 ghost use Rattle.vw_bits.specs.Headers.{table, is_readable, is_executable};
 ghost use Rattle.vw_bits.specs.Places.{in_file_part};
@@ -49,6 +49,20 @@ pub struct Span {
     pub count: u32,
 }
 
+/// The tables that were read, all where no entry is wrong, and the address of the first wrong one.
+#[derive(Drop)]
+pub struct TablesScan {
+    tables: List<TableInfo>,
+    wrong: Option<u64>,
+}
+
+/// The entries of a table that were read, all where none is wrong, and the address of the first wrong one.
+#[derive(Drop)]
+pub struct TableScan {
+    entries: List<TableEntry>,
+    wrong: Option<u64>,
+}
+
 /// The pairs of a module: where they begin, and how many there are.
 #[derive(Clone, Copy, Debug)]
 pub struct Pairs {
@@ -95,10 +109,9 @@ pub(crate) fn read_tables(
         34,
         place_of(image, first_wrong_table(image, spans.as_slice())),
     )?;
-    let wrong = first_wrong_entry(image, functions, spans.as_slice());
-    refuse(35, place_of(image, wrong))?;
-    let tables = tables_in(alloc, image, spans.as_slice()).map_err(ModuleError::Memory)?;
-    Ok(tables)
+    let scan = scan_tables(alloc, image, functions, spans.as_slice()).map_err(ModuleError::Memory)?;
+    refuse(35, place_of(image, scan.wrong))?;
+    Ok(scan.tables)
 }
 
 // Rule 32: the first symbol of the tables that does not agree with the first one.
@@ -294,44 +307,92 @@ fn first_wrong_table(image: &Image, spans: &[Span]) -> Option<u64>
         .map(|s| s.pair)
 }
 
-// Rule 35: the address of the first entry that is wrong, by table and then by entry.
-fn first_wrong_entry(image: &Image, functions: &[Function], spans: &[Span]) -> Option<u64>
+// The tables with their entries, and rule 35: the address of the first entry that is wrong, by table and then by
+// entry.
+fn scan_tables(
+    alloc: Global,
+    image: &Image,
+    functions: &[Function],
+    spans: &[Span],
+) -> Result<TablesScan, OutOfMemory>
     requires ascend { Ascend functions.now }
     requires few { length functions.now ≤ 65536 }
     requires low { AreLow spans.now }
-    ensures { result ≡ find (λ entry. not (is_table_entry image.now functions.now entry)) (flat_map entries_in spans.now) }
+    ensures wrong { IfOk result (λ scan. scan.wrong ≡ find (λ entry. not (is_table_entry image.now functions.now entry)) (flat_map entries_in spans.now)) }
+    ensures tables { IfOk result (λ scan. scan.wrong ≡ None → scan.tables ≡ map (table_in image.now) spans.now) }
 {
+    let mut tables = List::new(alloc);
     for span in spans {
-        if let Some(entry) = wrong_entry_of(image, functions, span) {
-            return Some(entry);
+        let scan = scan_table(alloc, image, functions, span)?;
+        match scan.wrong {
+            Some(entry) => {
+                return Ok(TablesScan {
+                    tables,
+                    wrong: Some(entry),
+                });
+            }
+            None => tables.push(TableInfo {
+                address: span.start,
+                entries: scan.entries,
+            })?,
         }
     }
-    None
+    Ok(TablesScan {
+        tables,
+        wrong: None,
+    })
 }
 
-fn wrong_entry_of(image: &Image, functions: &[Function], span: &Span) -> Option<u64>
+fn scan_table(
+    alloc: Global,
+    image: &Image,
+    functions: &[Function],
+    span: &Span,
+) -> Result<TableScan, OutOfMemory>
     requires ascend { Ascend functions.now }
     requires few { length functions.now ≤ 65536 }
     requires low { IsLow span.now }
-    ensures { result ≡ find (λ entry. not (is_table_entry image.now functions.now entry)) (entries_in span.now) }
+    ensures wrong { IfOk result (λ scan. scan.wrong ≡ find (λ entry. not (is_table_entry image.now functions.now entry)) (entries_in span.now)) }
+    ensures entries { IfOk result (λ scan. scan.wrong ≡ None → scan.entries ≡ map (table_entry_at image.now) (entries_in span.now)) }
 {
+    let mut entries = List::new(alloc);
     for index in 0..span.count {
-        let entry = span.start + PAIR_SIZE * index as u64;
-        if !is_table_entry(image, functions, entry) {
-            return Some(entry);
+        let address = span.start + PAIR_SIZE * index as u64;
+        match entry_at(image, functions, address) {
+            Some(entry) => entries.push(entry)?,
+            None => {
+                return Ok(TableScan {
+                    entries,
+                    wrong: Some(address),
+                });
+            }
         }
     }
-    None
+    Ok(TableScan {
+        entries,
+        wrong: None,
+    })
 }
 
-fn is_table_entry(image: &Image, functions: &[Function], entry: u64) -> bool
+// The entry at an address, of which each word is looked at once; `None` where it breaks rule 35.
+#[tactic(auto, unfolding(crate::specs::Tables::table_entry_at))]
+fn entry_at(image: &Image, functions: &[Function], entry: u64) -> Option<TableEntry>
     requires ascend { Ascend functions.now }
     requires few { length functions.now ≤ 65536 }
     requires below { entry ≤ 2 ^ 32 }
-    ensures { result ≡ is_table_entry image.now functions.now entry }
+    ensures value { IfSome result (λ found. found ≡ table_entry_at image.now entry) }
+    ensures test { is_some result ≡ is_table_entry image.now functions.now entry }
 {
     let tag = word(image, entry);
-    is_tag(tag) && (is_empty(tag) || is_pointer(image, functions, word(image, entry + 8)))
+    let pointer = word(image, entry + 8);
+    if is_tag(tag) && (is_empty(tag) || is_pointer(image, functions, pointer)) {
+        Some(TableEntry {
+            tag: number_in(tag),
+            pointer,
+        })
+    } else {
+        None
+    }
 }
 
 fn is_tag(word: Word) -> bool
@@ -381,43 +442,5 @@ fn is_ordinary(target: CallTarget) -> bool
     match target {
         CallTarget::Function(_) | CallTarget::Stub(_) => true,
         CallTarget::Probe => false,
-    }
-}
-
-// The tables with their entries.
-fn tables_in(alloc: Global, image: &Image, spans: &[Span]) -> Result<List<TableInfo>, OutOfMemory>
-    requires { AreLow spans.now }
-    ensures { IfOk result (λ tables. tables ≡ map (table_in image.now) spans.now) }
-{
-    let mut tables = List::new(alloc);
-    for span in spans {
-        let entries = entries_of(alloc, image, span)?;
-        tables.push(TableInfo {
-            address: span.start,
-            entries,
-        })?;
-    }
-    Ok(tables)
-}
-
-fn entries_of(alloc: Global, image: &Image, span: &Span) -> Result<List<TableEntry>, OutOfMemory>
-    requires { IsLow span.now }
-    ensures { IfOk result (λ entries. entries ≡ map (table_entry_at image.now) (entries_in span.now)) }
-{
-    let mut entries = List::new(alloc);
-    for index in 0..span.count {
-        entries.push(entry_at(image, span.start + PAIR_SIZE * index as u64))?;
-    }
-    Ok(entries)
-}
-
-#[tactic(auto, unfolding(crate::specs::Tables::table_entry_at))]
-fn entry_at(image: &Image, entry: u64) -> TableEntry
-    requires { entry ≤ 2 ^ 32 }
-    ensures { result ≡ table_entry_at image.now entry }
-{
-    TableEntry {
-        tag: number_in(word(image, entry)),
-        pointer: word(image, entry + 8),
     }
 }

@@ -10,7 +10,7 @@ use Rattle.vw_dynamic.specs.Dynamic.{file_relocations}
 use Rattle.vw_image.specs.Image.{image_of}
 use Rattle.vw_layout.specs.Bounds.{AreInside}
 use Rattle.vw_layout.specs.Faults.{Names}
-use Rattle.vw_layout.specs.Symbols.{symbols_for}
+use Rattle.vw_layout.specs.Symbols.{symbols_for, distinct_sections}
 use Rattle.vw_layout.specs.Functions.{function_rules}
 use Rattle.vw_layout.specs.Tables.{table_rules}
 use Rattle.vw_layout.specs.Spans.{Ascend}
@@ -18,15 +18,16 @@ use Rattle.vw_layout.specs.Layout.{function_symbols, tables_symbols, declared_fu
 use Rattle.vw_layout.specs.declared.symbols.Role.TheVariants as role
 use Rattle.vw_layout.specs.declared.functions.Function.{Function}
 use Rattle.vw_layout.proofs.SectionLemmas.{AreInside-from_rules}
+use Rattle.vw_layout.proofs.DistinctLemmas.{AreAlike, inside_distinct}
 use Rattle.vw_layout.proofs.ModuleLemmas.{segments_low, segments_are, relocations_are, functions_ascend, in_functions, in_tables, in_imports, none_broken, function_rules_same, functions_same, tables_symbols_same, table_rules_same, tables_same}
 use Rattle.vw_layout.proofs.ApartLemmas.{few_by_rules}
 use Rattle.vw_layout.proofs.layout.read_layout.Goals as goal
 
-inside_of : (bytes lent : List ℕ) (sections : List SymbolSection) → lent ≡ bytes → sections ≡ symbol_sections bytes → AreInside (length bytes) (symbol_sections bytes) → AreInside (length lent) sections
+inside_of : (bytes lent : List ℕ) (sections : List SymbolSection) → lent ≡ bytes → sections ≡ distinct_sections (symbol_sections bytes) → AreInside (length bytes) (symbol_sections bytes) → AreInside (length lent) sections
 inside_of bytes lent sections same are inside =
     let P : List SymbolSection → Type 0 = λ ss. AreInside (length bytes) ss in
     let Q : List ℕ → Type 0 = λ bs. AreInside (length bs) sections in
-    subst Q (sym same) (subst P (sym are) inside)
+    subst Q (sym same) (subst P (sym are) (inside_distinct (length bytes) (symbol_sections bytes) inside))
 
 low_of : (bytes : List ℕ) (segments : List Segment) → segments ≡ segments_of bytes → AreBounded (2 ^ 32) (segments_of bytes) → AreBounded (2 ^ 32) segments
 low_of bytes segments are low = let P : List Segment → Type 0 = λ ss. AreBounded (2 ^ 32) ss in subst P (sym are) low
@@ -72,7 +73,7 @@ returns-in_err-tables-clause-fault c =
     let held : AllHold (function_rules bytes (segments_of bytes) (function_symbols bytes)) = subst H agree c.in_ok-functions.ensures.rules in
     let functions : c.as_slice.result.now ≡ declared_functions bytes = c.as_slice.ensures ∙ c.in_ok-functions.ensures.ok ∙ functions_same c.bytes.result.now bytes c.args.sections.now (symbol_sections bytes) c.bytes.ensures.lent c.requires.sections in
     let read : c.in_ok-symbols.symbols.items ≡ symbols_for c.bytes-2.result.now c.args.sections.now role.Tables = search rules in
-    let symbols : c.as_slice-2.result.now ≡ tables_symbols bytes = c.as_slice-2.ensures.value ∙ read ∙ tables_symbols_same c.bytes-2.result.now bytes c.args.sections.now (symbol_sections bytes) c.bytes-2.ensures.lent c.requires.sections in
+    let symbols : AreAlike (tables_symbols bytes) c.as_slice-2.result.now = tables_symbols_same c.bytes-2.result.now bytes c.args.sections.now (symbol_sections bytes) c.as_slice-2.result.now c.bytes-2.ensures.lent c.requires.sections (c.as_slice-2.ensures.value ∙ read) in
     let same = table_rules_same c.args.image (image_of bytes) c.as_slice.result.now (declared_functions bytes) c.as_slice-2.result.now (tables_symbols bytes) c.bytes.ensures.whole.whole functions symbols in
     let P : List (Option ℕ) → Type 0 = λ r. Names (lowest_broken 32 r) c.in_err-tables.field-0.0 in
     let p = err_from_is_err_and c.from_residual-in_err-tables.result c.from_residual-in_err-tables.ensures.1 in
@@ -86,7 +87,7 @@ returns-in_err-refuse-clause-fault c =
     let held : AllHold (function_rules bytes (segments_of bytes) (function_symbols bytes)) = subst H agree c.in_ok-functions.ensures.rules in
     let functions : c.as_slice.result.now ≡ declared_functions bytes = c.as_slice.ensures ∙ c.in_ok-functions.ensures.ok ∙ functions_same c.bytes.result.now bytes c.args.sections.now (symbol_sections bytes) c.bytes.ensures.lent c.requires.sections in
     let read : c.in_ok-symbols.symbols.items ≡ symbols_for c.bytes-2.result.now c.args.sections.now role.Tables = search rules in
-    let symbols : c.as_slice-2.result.now ≡ tables_symbols bytes = c.as_slice-2.ensures.value ∙ read ∙ tables_symbols_same c.bytes-2.result.now bytes c.args.sections.now (symbol_sections bytes) c.bytes-2.ensures.lent c.requires.sections in
+    let symbols : AreAlike (tables_symbols bytes) c.as_slice-2.result.now = tables_symbols_same c.bytes-2.result.now bytes c.args.sections.now (symbol_sections bytes) c.as_slice-2.result.now c.bytes-2.ensures.lent c.requires.sections (c.as_slice-2.ensures.value ∙ read) in
     let same = table_rules_same c.args.image (image_of bytes) c.as_slice.result.now (declared_functions bytes) c.as_slice-2.result.now (tables_symbols bytes) c.bytes.ensures.whole.whole functions symbols in
     let tables : AllHold (table_rules (image_of bytes) (declared_functions bytes) (tables_symbols bytes)) = subst H same c.in_ok-tables.ensures.rules in
     let late : c.args.late ≡ import_rule (file_relocations bytes) = c.requires.late ∙ ap import_rule (relocations_are c.args.image c.bytes.ensures.whole) in
@@ -100,7 +101,7 @@ pub returns-clause-tables : goal.returns-clause-tables
 returns-clause-tables c =
     let bytes = c.args.image.bytes in
     let read : c.in_ok-symbols.symbols.items ≡ symbols_for c.bytes-2.result.now c.args.sections.now role.Tables = search rules in
-    let symbols : c.as_slice-2.result.now ≡ tables_symbols bytes = c.as_slice-2.ensures.value ∙ read ∙ tables_symbols_same c.bytes-2.result.now bytes c.args.sections.now (symbol_sections bytes) c.bytes-2.ensures.lent c.requires.sections in
+    let symbols : AreAlike (tables_symbols bytes) c.as_slice-2.result.now = tables_symbols_same c.bytes-2.result.now bytes c.args.sections.now (symbol_sections bytes) c.as_slice-2.result.now c.bytes-2.ensures.lent c.requires.sections (c.as_slice-2.ensures.value ∙ read) in
     c.in_ok-tables.ensures.ok ∙ tables_same c.args.image (image_of bytes) c.as_slice-2.result.now (tables_symbols bytes) c.bytes.ensures.whole.whole symbols
 
 pub returns-clause-rules : goal.returns-clause-rules
@@ -111,7 +112,7 @@ returns-clause-rules c =
     let held : AllHold (function_rules bytes (segments_of bytes) (function_symbols bytes)) = subst H agree c.in_ok-functions.ensures.rules in
     let functions : c.as_slice.result.now ≡ declared_functions bytes = c.as_slice.ensures ∙ c.in_ok-functions.ensures.ok ∙ functions_same c.bytes.result.now bytes c.args.sections.now (symbol_sections bytes) c.bytes.ensures.lent c.requires.sections in
     let read : c.in_ok-symbols.symbols.items ≡ symbols_for c.bytes-2.result.now c.args.sections.now role.Tables = search rules in
-    let symbols : c.as_slice-2.result.now ≡ tables_symbols bytes = c.as_slice-2.ensures.value ∙ read ∙ tables_symbols_same c.bytes-2.result.now bytes c.args.sections.now (symbol_sections bytes) c.bytes-2.ensures.lent c.requires.sections in
+    let symbols : AreAlike (tables_symbols bytes) c.as_slice-2.result.now = tables_symbols_same c.bytes-2.result.now bytes c.args.sections.now (symbol_sections bytes) c.as_slice-2.result.now c.bytes-2.ensures.lent c.requires.sections (c.as_slice-2.ensures.value ∙ read) in
     let same = table_rules_same c.args.image (image_of bytes) c.as_slice.result.now (declared_functions bytes) c.as_slice-2.result.now (tables_symbols bytes) c.bytes.ensures.whole.whole functions symbols in
     let tables : AllHold (table_rules (image_of bytes) (declared_functions bytes) (tables_symbols bytes)) = subst H same c.in_ok-tables.ensures.rules in
     let late : c.args.late ≡ import_rule (file_relocations bytes) = c.requires.late ∙ ap import_rule (relocations_are c.args.image c.bytes.ensures.whole) in

@@ -1,4 +1,5 @@
-use Rattle.std.proofs.Common.{◌≡◌, ℕ, [], ◌∷◌, List, map, Option, None, rules, refl, sym, ap, subst, ◌∙◌}
+use Rattle.std.proofs.Common.{◌≡◌, ℕ, [], ◌∷◌, List, map, Option, None, rules, refl, sym, ap, subst, ◌∙◌, not}
+use Rattle.std.specs.List.{find, flat_map}
 use Rattle.std.specs.Option.{option_or}
 use Rattle.std.proofs.lemmas.Result.{err_from_is_err_and}
 use Rattle.vw_bits.specs.Headers.{table}
@@ -7,8 +8,8 @@ use Rattle.vw_bits.specs.declared.records.Segment.{Segment}
 use Rattle.vw_image.specs.Image.{Contents}
 use Rattle.vw_layout.specs.Faults.{Names, Tells}
 use Rattle.vw_layout.specs.Functions.{symbol_offset}
-use Rattle.vw_layout.specs.Tables.{first_of, first_disagreeing, range_rule, pair_rule, table_rule, entry_rule, pairs_of, place_of, table_at, table_rules, tables_of}
-use Rattle.vw_layout.specs.Spans.{span_at, table_in, AreLow}
+use Rattle.vw_layout.specs.Tables.{first_of, first_disagreeing, range_rule, pair_rule, table_rule, entry_rule, pairs_of, place_of, table_at, table_rules, tables_of, is_table_entry}
+use Rattle.vw_layout.specs.Spans.{span_at, table_in, AreLow, entries_in}
 use Rattle.vw_layout.specs.declared.symbols.SymbolEntry.{SymbolEntry}
 use Rattle.vw_layout.specs.declared.functions.Function.{Function}
 use Rattle.vw_layout.specs.declared.tables.Span.{Span}
@@ -87,8 +88,8 @@ returns-in_err-refuse-3-clause-fault c =
     let p = err_from_is_err_and c.from_residual-in_err-refuse-3.result c.from_residual-in_err-refuse-3.ensures.1 in
     rw (p.1, p.2) (in_tables image c.args.functions.now c.args.symbols.now ps c.in_ok-pairs.ensures.pairs c.first_disagreeing.result c.first_disagreeing.ensures c.in_ok-refuse.ensures.holds placed c.place_of.result second c.in_ok-refuse-2.ensures.holds c.place_of-2.result _ third c.in_err-refuse-3.ensures.broken)
 
-pub first_wrong_entry-wrong-requires-clause-low : goal.first_wrong_entry-wrong-requires-clause-low
-first_wrong_entry-wrong-requires-clause-low c =
+pub scan_tables-requires-clause-low : goal.scan_tables-requires-clause-low
+scan_tables-requires-clause-low c =
     let segments = c.args.image.now.segments in
     let low : AreLow c.as_slice.result.now = AreLow-from_rule segments c.as_slice.result.now c.requires.bounded (sym c.first_wrong_table.ensures ∙ nowhere segments _ (sym c.place_of-2.ensures ∙ c.in_ok-refuse-3.ensures.holds)) in
     let P : List Span → Type 0 = λ spans. AreLow spans in
@@ -102,16 +103,10 @@ returns-in_err-refuse-4-clause-fault c =
     let second : c.place_of.result ≡ pair_rule image ps = c.place_of.ensures ∙ ap (place_of image.segments) c.first_wrong_pair.ensures in
     let spans : c.in_ok-spans.spans.items ≡ map (span_at image) ps = search rules in
     let third : c.place_of-2.result ≡ table_rule image ps = c.place_of-2.ensures ∙ ap (place_of image.segments) (c.first_wrong_table.ensures ∙ tables_found image ps c.as_slice.result.now (c.as_slice.ensures.value ∙ spans)) in
-    let fourth : c.place_of-3.result ≡ entry_rule image c.args.functions.now ps = c.place_of-3.ensures ∙ ap (place_of image.segments) (c.first_wrong_entry-wrong.ensures ∙ entries_found image c.args.functions.now ps c.as_slice-2.result.now (c.as_slice-2.ensures.value ∙ spans)) in
+    let wrong : c.in_ok-scan.scan.wrong ≡ find (λ entry. not (is_table_entry image c.args.functions.now entry)) (flat_map entries_in c.as_slice-2.result.now) = search rules in
+    let fourth : c.place_of-3.result ≡ entry_rule image c.args.functions.now ps = c.place_of-3.ensures ∙ ap (place_of image.segments) (wrong ∙ entries_found image c.args.functions.now ps c.as_slice-2.result.now (c.as_slice-2.ensures.value ∙ spans)) in
     let p = err_from_is_err_and c.from_residual-in_err-refuse-4.result c.from_residual-in_err-refuse-4.ensures.1 in
     rw (p.1, p.2) (in_entries image c.args.functions.now c.args.symbols.now ps c.in_ok-pairs.ensures.pairs c.first_disagreeing.result c.first_disagreeing.ensures c.in_ok-refuse.ensures.holds placed c.place_of.result second c.in_ok-refuse-2.ensures.holds c.place_of-2.result c.place_of-3.result _ third c.in_ok-refuse-3.ensures.holds fourth c.in_err-refuse-4.ensures.broken)
-
-pub tables_in-requires : goal.tables_in-requires
-tables_in-requires c =
-    let segments = c.args.image.now.segments in
-    let low : AreLow c.as_slice.result.now = AreLow-from_rule segments c.as_slice.result.now c.requires.bounded (sym c.first_wrong_table.ensures ∙ nowhere segments _ (sym c.place_of-2.ensures ∙ c.in_ok-refuse-3.ensures.holds)) in
-    let P : List Span → Type 0 = λ spans. AreLow spans in
-    subst P (c.as_slice.ensures.value ∙ sym c.as_slice-3.ensures.value) low
 
 pub returns-clause-rules : goal.returns-clause-rules
 returns-clause-rules c =
@@ -121,7 +116,8 @@ returns-clause-rules c =
     let second : c.place_of.result ≡ pair_rule image ps = c.place_of.ensures ∙ ap (place_of image.segments) c.first_wrong_pair.ensures in
     let spans : c.in_ok-spans.spans.items ≡ map (span_at image) ps = search rules in
     let third : c.place_of-2.result ≡ table_rule image ps = c.place_of-2.ensures ∙ ap (place_of image.segments) (c.first_wrong_table.ensures ∙ tables_found image ps c.as_slice.result.now (c.as_slice.ensures.value ∙ spans)) in
-    let fourth : c.place_of-3.result ≡ entry_rule image c.args.functions.now ps = c.place_of-3.ensures ∙ ap (place_of image.segments) (c.first_wrong_entry-wrong.ensures ∙ entries_found image c.args.functions.now ps c.as_slice-2.result.now (c.as_slice-2.ensures.value ∙ spans)) in
+    let wrong : c.in_ok-scan.scan.wrong ≡ find (λ entry. not (is_table_entry image c.args.functions.now entry)) (flat_map entries_in c.as_slice-2.result.now) = search rules in
+    let fourth : c.place_of-3.result ≡ entry_rule image c.args.functions.now ps = c.place_of-3.ensures ∙ ap (place_of image.segments) (wrong ∙ entries_found image c.args.functions.now ps c.as_slice-2.result.now (c.as_slice-2.ensures.value ∙ spans)) in
     none_broken image c.args.functions.now c.args.symbols.now ps c.in_ok-pairs.ensures.pairs c.first_disagreeing.result c.first_disagreeing.ensures c.in_ok-refuse.ensures.holds placed c.place_of.result second c.in_ok-refuse-2.ensures.holds c.place_of-2.result c.place_of-3.result third c.in_ok-refuse-3.ensures.holds fourth c.in_ok-refuse-4.ensures.holds
 
 pub returns-clause-ok : goal.returns-clause-ok
@@ -130,5 +126,6 @@ returns-clause-ok c =
     let image = c.args.image.now in
     let ps = table c.in_ok-pairs.pairs.start 16 c.in_ok-pairs.pairs.count in
     let spans : c.in_ok-spans.spans.items ≡ map (span_at image) ps = search rules in
-    let read : c.in_ok-tables.tables ≡ map (table_in image) c.as_slice-3.result.now = search rules in
-    read ∙ tables_same image ps c.as_slice-3.result.now (c.as_slice-3.ensures.value ∙ spans) ∙ ap (map (table_at image)) (sym c.in_ok-pairs.ensures.pairs)
+    let read : c.in_ok-scan.scan.wrong ≡ None → c.in_ok-scan.scan.tables ≡ map (table_in image) c.as_slice-2.result.now = search rules in
+    let none : c.in_ok-scan.scan.wrong ≡ None = nowhere image.segments _ (sym c.place_of-3.ensures ∙ c.in_ok-refuse-4.ensures.holds) in
+    read none ∙ tables_same image ps c.as_slice-2.result.now (c.as_slice-2.ensures.value ∙ spans) ∙ ap (map (table_at image)) (sym c.in_ok-pairs.ensures.pairs)

@@ -4,6 +4,7 @@ use Rattle.vw_bits.specs.HeaderRules.{header_fault}
 use Rattle.vw_elf.specs.SymbolSections.{symbol_sections}
 use Rattle.vw_dynamic.specs.Dynamic.{dynamic_fault, file_relocations}
 use Rattle.vw_image.specs.Image.{Contents, image_of}
+use Rattle.vw_layout.specs.Symbols.{distinct_sections}
 use Rattle.vw_layout.specs.Layout.{import_rule}
 use Rattle.vw_layout.proofs.ModuleLemmas.{bytes_are, file_relocations_are, module_of, whole_of, fault_of, header_names, dynamic_names}
 use Rattle.vw_layout.proofs.layout.Module.read.Goals as goal
@@ -23,7 +24,8 @@ read_layout-requires-clause-sections c =
     let image : c.in_ok-image.image ≡ image_of c.args.bytes = search rules in
     let symbols : c.in_ok-elf.elf.symbols ≡ symbol_sections c.args.bytes = search rules in
     let whole : c.in_ok-image.image.bytes ≡ c.args.bytes = ap (λ (i : Contents). i.bytes) image ∙ bytes_are c.args.bytes in
-    c.as_slice-6.ensures ∙ symbols ∙ ap symbol_sections (sym whole)
+    let sections : c.in_ok-sections.sections.keys ≡ distinct_sections c.as_slice-6.result.now = search rules in
+    c.as_slice-7.ensures.keys ∙ (sections ∙ ap distinct_sections (c.as_slice-6.ensures ∙ symbols ∙ ap symbol_sections (sym whole)))
 
 pub read_layout-requires-clause-late : goal.read_layout-requires-clause-late
 read_layout-requires-clause-late c =
