@@ -8,29 +8,35 @@ use Rattle.vw_dynamic.specs.Dynamic.{file_imports}
 use Rattle.vw_image.specs.Image.{Contents, image_of}
 use Rattle.vw_layout.specs.declared.functions.Function.{Function}
 use Rattle.vw_layout.specs.declared.layout.Module.{Module}
-use Rattle.vw_layout.specs.Layout.{module_fault, declared_functions, declared_tables, IsModuleOf}
+use Rattle.vw_rows.specs.Numbers.{IsBytes}
+use Rattle.vw_layout.specs.Layout.{module_fault, declared_functions, declared_tables, IsModuleOf, IsWhole}
 use Rattle.vw_app.specs.declared.status.Status.{Status}
 use Rattle.vw_app.specs.declared.request.Command.{Command}
 use Rattle.vw_app.specs.declared.request.Command.TheVariants as command
 use Rattle.vw_app.specs.Lines.{malformed_line, unsafe_line, info_text}
 use Rattle.vw_outside.specs.Shelf.{Rose}
-use Rattle.vw_state.specs.Context.{context_of}
+use Rattle.vw_checks.specs.Modules.{EachHasSafeTable}
 use Rattle.vw_machine.specs.Module.{declared_module}
+use Rattle.vw_make.specs.Generator.{generated_parts}
+use Rattle.vw_make.specs.Module.{module_bytes}
 use Rattle.vw_sandbox.specs.Sandboxed.{IsSandboxedFile}
-use Rattle.vw_app.specs.Answer.{Reply, usage, read_fault, answered, Answered, malformed, done, Judged, uncovered, safe, unsafe, Asks, AreTold, ReadFailed, Done, word, IsAccepted, accepted_text}
-use Rattle.vw_app.specs.Covered.{IsCoveredModule, HasAnother}
-use Rattle.vw_app.proofs.Coverage.{OneLeast, covered_table}
+use Rattle.vw_report.specs.Reports.{TablesHaveOneText}
+use Rattle.vw_app.specs.Answer.{Reply, WithoutFile, usage, generated, without_file, read_fault, AsksModule, IsForm, of_file, of_numbers, answered, Answered, malformed, done, Judged, IsSafeLine, IsLeastReport, safe, unsafe, Asks, AreTold, ReadFailed, Done, Judges, word, IsAccepted, IsAcceptedText}
+use Rattle.vw_app.specs.Listing.{IsListing}
+use Rattle.vw_app.proofs.Least.{OneLeast, OneLeastIn, SitesLaw, one_least_in}
+use Rattle.vw_app.proofs.Listings.{OneSpelling, listing_once}
 use Rattle.vw_app.proofs.Places.{one_place}
+use Rattle.vw_app.proofs.Reports.{reports_once}
 
-module _ (words : List (List ℕ)) (told : List ℕ → Option (List ℕ)) (fault : List ℕ → Type 0) (Wrote : List ℕ → Type 0) where
+module _ (Answers : ℕ → List ℕ → Type 0) (Wrote : List ℕ → Type 0) where
   -- the answer that was written whole
-  pub replied : (result status : Status) (text : List ℕ) → Reply words told fault status.0 text → (result.0 ≢ 5 → (result ≡ status) × Wrote text) → result.0 ≢ 5 → result.0 ≢ 6 → (text : List ℕ) × Wrote text × Reply words told fault result.0 text
+  pub replied : (result status : Status) (text : List ℕ) → Answers status.0 text → (result.0 ≢ 5 → (result ≡ status) × Wrote text) → result.0 ≢ 5 → result.0 ≢ 6 → (text : List ℕ) × Wrote text × Answers result.0 text
   replied result status text reply written not_five not_six =
       let whole = written not_five in
-      (text, whole.1, subst (λ (s : Status). Reply words told fault s.0 text) (sym whole.0) reply)
+      (text, whole.1, subst (λ (s : Status). Answers s.0 text) (sym whole.0) reply)
 
   -- the answer that was not written whole
-  pub cut_short : (result : ℕ) (status : Status) (text : List ℕ) (Counted : Type 0) → Reply words told fault status.0 text → (result ≡ 5 → Counted × Wrote text) → result ≡ 5 → Counted × (status : ℕ) × (text : List ℕ) × Wrote text × Reply words told fault status text
+  pub cut_short : (result : ℕ) (status : Status) (text : List ℕ) (Counted : Type 0) → Answers status.0 text → (result ≡ 5 → Counted × Wrote text) → result ≡ 5 → Counted × (status : ℕ) × (text : List ℕ) × Wrote text × Answers status text
   cut_short result status text Counted reply failed is = let f = failed is in (f.0, status.0, text, f.1, reply)
 
 -- a file that is longer than a module may be breaks the first rule
@@ -70,8 +76,20 @@ reply_to {words} {told} {fault} command name file status made text asks are_told
 
 same_word : (command other : Command) → word command ≡ word other → command ≡ other
 same_word command.Verify command.Verify e = refl
+same_word command.Verify command.Report e = absurd (let l : 118 ≡ 114 = ap (λ (w : List ℕ). get_or w 0 0) e in omega (arith, l))
+same_word command.Verify command.List e = absurd (let l : 6 ≡ 4 = ap length e in omega (arith, l))
 same_word command.Verify command.Info e = absurd (let l : 6 ≡ 4 = ap length e in omega (arith, l))
+same_word command.Report command.Verify e = absurd (let l : 114 ≡ 118 = ap (λ (w : List ℕ). get_or w 0 0) e in omega (arith, l))
+same_word command.Report command.Report e = refl
+same_word command.Report command.List e = absurd (let l : 6 ≡ 4 = ap length e in omega (arith, l))
+same_word command.Report command.Info e = absurd (let l : 6 ≡ 4 = ap length e in omega (arith, l))
+same_word command.List command.Verify e = absurd (let l : 4 ≡ 6 = ap length e in omega (arith, l))
+same_word command.List command.Report e = absurd (let l : 4 ≡ 6 = ap length e in omega (arith, l))
+same_word command.List command.List e = refl
+same_word command.List command.Info e = absurd (let l : 108 ≡ 105 = ap (λ (w : List ℕ). get_or w 0 0) e in omega (arith, l))
 same_word command.Info command.Verify e = absurd (let l : 4 ≡ 6 = ap length e in omega (arith, l))
+same_word command.Info command.Report e = absurd (let l : 4 ≡ 6 = ap length e in omega (arith, l))
+same_word command.Info command.List e = absurd (let l : 105 ≡ 108 = ap (λ (w : List ℕ). get_or w 0 0) e in omega (arith, l))
 same_word command.Info command.Info e = refl
 
 -- the words ask for one thing
@@ -81,14 +99,31 @@ same_request {words} {command} {other} {name} {other_name} one two =
     let firsts : word command ≡ word other = ap (λ (l : List (List ℕ)). get_or l 0 []) e in
     (same_word command other firsts, ap (λ (l : List (List ℕ)). get_or l 1 []) e)
 
--- an answer of status 0 to `verify` is that of a file that was read
+-- words that ask for a file ask for no module
+two_forms : (words : List (List ℕ)) (asked : Command) (name : List ℕ) (functions number : ℕ) → Asks words asked name → AsksModule words functions number → ⊥
+two_forms words asked name functions number asks also = let l : 2 ≡ 3 = ap length (sym asks ∙ also.0) in omega (arith, l)
+
+-- and are answered by it
+no_file : (words : List (List ℕ)) (asked : Command) (name : List ℕ) {status : ℕ} {text : List ℕ} → Asks words asked name → WithoutFile words status text → ⊥
+no_file words asked name asks (usage none) = none (of_file asked name asks)
+no_file words asked name asks (generated functions number also) = two_forms words asked name functions number asks also
+
+-- a module that was made, lent piece by piece
+pub module_made : {words : List (List ℕ)} (functions number : ℕ) (file lent : List ℕ) → AsksModule words functions number → file ≡ module_bytes (generated_parts functions number) → lent ≡ file → WithoutFile words 0 lent
+module_made {words} functions number file lent asks is same = subst (λ (t : List ℕ). WithoutFile words 0 t) (sym (same ∙ is)) (generated functions number asks)
+
+pub no_form : {words : List (List ℕ)} → ((asked : Command) (name : List ℕ) → Asks words asked name → ⊥) → ((functions number : ℕ) → AsksModule words functions number → ⊥) → IsForm words → ⊥
+no_form no_file no_module (of_file asked name asks) = no_file asked name asks
+no_form no_file no_module (of_numbers functions number asks) = no_module functions number asks
+
+-- an answer of status 0, the verdict's, is that of a file that was read
 pub safe_reply : {words : List (List ℕ)} (told : List ℕ → Option (List ℕ)) (result status : Status) (asked : Command) (lent file : List ℕ) {Rest : Type 0} → Asks words asked lent → AreTold (told lent) file
-    → (result.0 ≢ 5 → (result ≡ status) × Rest) → (asked ≡ command.Verify → status.0 ≡ 0 → IsSandboxedFile file)
-    → (name : List ℕ) → Asks words command.Verify name → result.0 ≡ 0 → (file : List ℕ) × AreTold (told name) file × IsSandboxedFile file
-safe_reply {words} told result status asked lent file asks are_told written found name verifies zero =
+    → (result.0 ≢ 5 → (result ≡ status) × Rest) → (Judges asked → status.0 ≡ 0 → IsSandboxedFile file)
+    → (other : Command) (name : List ℕ) → Judges other → Asks words other name → result.0 ≡ 0 → (file : List ℕ) × AreTold (told name) file × IsSandboxedFile file
+safe_reply {words} told result status asked lent file asks are_told written found other name judges verifies zero =
     let whole = written (λ five. absurd (omega arith)) in
     let same = same_request asks verifies in
-    (file, subst (λ (n : List ℕ). AreTold (told n) file) same.1 are_told, found same.0 (sym (ap (λ (s : Status). s.0) whole.0) ∙ zero))
+    (file, subst (λ (n : List ℕ). AreTold (told n) file) same.1 are_told, found (subst Judges (sym same.0) judges) (sym (ap (λ (s : Status). s.0) whole.0) ∙ zero))
 
 -- an answer of another status is not safe
 pub unsafe_reply : {A : Type 0} (result status : Status) {Rest : Type 0} → (status.0 ≡ 0 → ⊥) → (result.0 ≢ 5 → (result ≡ status) × Rest) → result.0 ≡ 0 → A
@@ -102,57 +137,84 @@ apart e = absurd cc
 same_some : {A : Type 0} {x y : A} → Some x ≡ Some y → x ≡ y
 same_some e = cc
 
-module _ (one_least : OneLeast) where
-  -- some function holds another instruction, or none does
-  covered_or_not : {m : Module} → HasAnother m → IsCoveredModule m → ⊥
-  covered_or_not {m} has covered =
-      let meets = has.meets in
-      let holds = meets.holds in
-      let table = covered_table one_least (context_of m has.function) (covered has.number has.function has.is) meets.table meets.least in
-      holds.another (table meets.at meets.state meets.there holds.instruction holds.len holds.stands)
+-- a module has one verdict, where it has one text of a safe module
+judged_once : {m : Module} {IsSafeText : List ℕ → Type 0} {status other : ℕ} {text other_text : List ℕ} → OneLeastIn m → ((a b : List ℕ) → IsSafeText a → IsSafeText b → a ≡ b)
+    → Judged m IsSafeText status text → Judged m IsSafeText other other_text → (status ≡ other) × (text ≡ other_text)
+judged_once one_least once (safe text each is) (safe text' each' is') = (refl, once text text' is is')
+judged_once one_least once (safe text each is) (unsafe place fails not_each) = absurd (not_each each)
+judged_once one_least once (unsafe place fails not_each) (safe text each is) = absurd (not_each each)
+judged_once one_least once (unsafe place fails not_each) (unsafe place' fails' not_each') =
+    let once = one_place one_least fails fails' in
+    (refl, ap (λ (f : Function). unsafe_line f.name place.at place.check) once.0 ∙ (ap (λ (a : ℕ). unsafe_line fails'.function.name a place.check) once.1 ∙ ap (λ (c : ℕ). unsafe_line fails'.function.name place'.at c) once.2))
 
-  pub judged_once : {m : Module} {status other : ℕ} {text other_text : List ℕ} → Judged m status text → Judged m other other_text → (status ≡ other) × (text ≡ other_text)
-  judged_once (uncovered has) (uncovered has') = (refl, refl)
-  judged_once (uncovered has) (safe covered each) = absurd (covered_or_not has covered)
-  judged_once (uncovered has) (unsafe place fails covered not_each) = absurd (covered_or_not has covered)
-  judged_once (safe covered each) (uncovered has) = absurd (covered_or_not has covered)
-  judged_once (safe covered each) (safe covered' each') = (refl, refl)
-  judged_once (safe covered each) (unsafe place fails covered' not_each) = absurd (not_each each)
-  judged_once (unsafe place fails covered not_each) (uncovered has) = absurd (covered_or_not has covered)
-  judged_once (unsafe place fails covered not_each) (safe covered' each) = absurd (not_each each)
-  judged_once (unsafe place fails covered not_each) (unsafe place' fails' covered' not_each') =
-      let once = one_place one_least fails fails' in
-      (refl, ap (λ (f : Function). unsafe_line f.name place.at place.check) once.0 ∙ (ap (λ (a : ℕ). unsafe_line fails'.function.name a place.check) once.1 ∙ ap (λ (c : ℕ). unsafe_line fails'.function.name place'.at c) once.2))
+done_once : (spelling : OneSpelling) (one_text : TablesHaveOneText) (asked : Command) (file : List ℕ) {status other : ℕ} {text other_text : List ℕ} → OneLeastIn (declared_module file) → Done asked file status text → Done asked file other other_text → (status ≡ other) × (text ≡ other_text)
+done_once spelling one_text command.Verify file one_least one two = judged_once {IsSafeText = IsSafeLine (declared_module file)} one_least (λ a b p q. p ∙ sym q) one two
+done_once spelling one_text command.Report file one_least one two =
+    judged_once {IsSafeText = IsLeastReport (declared_module file)} one_least (λ a b p q. reports_once (declared_module file) a b one_least one_text p q) one two
+done_once spelling one_text command.List file {status} {other} {text} {other_text} one_least one two =
+    (one.0 ∙ sym two.0, listing_once spelling (declared_module file) text other_text one_least one.1 two.1)
+done_once spelling one_text command.Info file one_least one two = (one.0 ∙ sym two.0, one.1 ∙ sym two.1)
 
-  done_once : (asked : Command) (file : List ℕ) {status other : ℕ} {text other_text : List ℕ} → Done asked file status text → Done asked file other other_text → (status ≡ other) × (text ≡ other_text)
-  done_once command.Verify file one two = judged_once one two
-  done_once command.Info file one two = (one.0 ∙ sym two.0, one.1 ∙ sym two.1)
+same_fault : {r r' o o' : ℕ} → ◌≡◌ {A = Option (ℕ × ℕ)} (Some (r, o)) (Some (r', o')) → malformed_line r o ≡ malformed_line r' o'
+same_fault {r} {r'} {o} {o'} e = ap (λ (p : ℕ × ℕ). malformed_line p.0 p.1) (same_some e)
 
-  same_fault : {r r' o o' : ℕ} → ◌≡◌ {A = Option (ℕ × ℕ)} (Some (r, o)) (Some (r', o')) → malformed_line r o ≡ malformed_line r' o'
-  same_fault {r} {r'} {o} {o'} e = ap (λ (p : ℕ × ℕ). malformed_line p.0 p.1) (same_some e)
+-- the module that a file gives
+whole_module : (file : List ℕ) → module_fault file ≡ None → IsWhole (declared_module file)
+unfolding image_of
+whole_module file is = record { rules = is; functions = refl; tables = refl; image = refl }
 
-  pub answers_once : (asked : Command) (file : List ℕ) {status other : ℕ} {text other_text : List ℕ} → Answered asked file status text → Answered asked file other other_text → (status ≡ other) × (text ≡ other_text)
-  answers_once asked file (malformed rule offset broken) (malformed rule' offset' broken') = (refl, same_fault (sym broken ∙ broken'))
-  answers_once asked file (malformed rule offset broken) (done status text holds found) = absurd (apart (sym holds ∙ broken))
-  answers_once asked file (done status text holds found) (malformed rule offset broken) = absurd (apart (sym holds ∙ broken))
-  answers_once asked file (done status text holds found) (done status' text' holds' found') = done_once asked file found found'
+image_bytes : (file : List ℕ) → IsBytes file → IsBytes (declared_module file).image.bytes
+unfolding image_of
+image_bytes file are = are
 
-  -- what a command accepts is answered so
-  accepted_answer : (asked : Command) (file : List ℕ) → module_fault file ≡ None → IsAccepted asked file → Answered asked file 0 (accepted_text asked file)
-  accepted_answer command.Verify file is accepted = done 0 (accepted_text command.Verify file) is (safe accepted.0 accepted.1)
-  accepted_answer command.Info file is accepted = done 0 (accepted_text command.Info file) is (refl, refl)
+pub answers_once : OneSpelling → TablesHaveOneText → OneLeast → SitesLaw → (asked : Command) (file : List ℕ) {status other : ℕ} {text other_text : List ℕ} → IsBytes file → Answered asked file status text → Answered asked file other other_text → (status ≡ other) × (text ≡ other_text)
+answers_once spelling one_text one sites asked file bytes (malformed rule offset broken) (malformed rule' offset' broken') = (refl, same_fault (sym broken ∙ broken'))
+answers_once spelling one_text one sites asked file bytes (malformed rule offset broken) (done status text holds found) = absurd (apart (sym holds ∙ broken))
+answers_once spelling one_text one sites asked file bytes (done status text holds found) (malformed rule offset broken) = absurd (apart (sym holds ∙ broken))
+answers_once spelling one_text one sites asked file bytes (done status text holds found) (done status' text' holds' found') =
+    done_once spelling one_text asked file (one_least_in one sites (declared_module file) (whole_module file holds) (image_bytes file bytes)) found found'
 
-  pub accepted_reply : (words : List (List ℕ)) (told : List ℕ → Option (List ℕ)) (before after : ℕ) (opened : Option (List ℕ)) (failed : Bool) (asked : Command) (name file : List ℕ) (status : ℕ) (text : List ℕ)
-      → Asks words asked name → told name ≡ Some file → (Rose before after → ⊥) → module_fault file ≡ None → IsAccepted asked file
-      → Reply words told (ReadFailed before after opened failed) status text → (status ≡ 0) × (text ≡ accepted_text asked file)
-  accepted_reply words told before after opened failed asked name file status text asks is_told steady is accepted (usage none) = absurd (none asked name asks)
-  accepted_reply words told before after opened failed asked name file status text asks is_told steady is accepted (read_fault other lent asks' fault) = absurd (steady fault.0)
-  accepted_reply words told before after opened failed asked name file status text asks is_told steady is accepted (answered other lent read status' text' asks' are_told answer) =
-      let same = same_request asks' asks in
-      let lent_told : told lent ≡ Some file = ap told same.1 ∙ is_told in
-      let file_is : read ≡ file = subst (λ (t : Option (List ℕ)). AreTold t read) lent_told are_told in
-      let here : Answered asked read status text = subst (λ (c : Command). Answered c read status text) same.0 answer in
-      answers_once asked file (subst (λ (b : List ℕ). Answered asked b status text) file_is here) (accepted_answer asked file is accepted)
+-- what a command says of a module that it accepts
+accepted_judged : {m : Module} {IsSafeText : List ℕ → Type 0} {status : ℕ} {text : List ℕ} → EachHasSafeTable m → Judged m IsSafeText status text → (status ≡ 0) × IsSafeText text
+accepted_judged each (safe text also is) = (refl, is)
+accepted_judged each (unsafe place fails not_each) = absurd (not_each each)
+
+accepted_done : (asked : Command) (file : List ℕ) (status : ℕ) (text : List ℕ) → IsAccepted asked file → Done asked file status text → (status ≡ 0) × IsAcceptedText asked file text
+accepted_done command.Verify file status text accepted found = accepted_judged accepted found
+accepted_done command.Report file status text accepted found = accepted_judged accepted found
+accepted_done command.List file status text accepted found = found
+accepted_done command.Info file status text accepted found = found
+
+done_of : {asked : Command} {file : List ℕ} {status : ℕ} {text : List ℕ} → module_fault file ≡ None → Answered asked file status text → Done asked file status text
+done_of is (malformed rule offset broken) = absurd (apart (sym is ∙ broken))
+done_of is (done status text holds found) = found
+
+-- where the words ask for a command and a file that is told, and the file was read, the command answers its bytes
+replied_done : (words : List (List ℕ)) (told : List ℕ → Option (List ℕ)) (fault : List ℕ → Type 0) (asked : Command) (name file : List ℕ) (status : ℕ) (text : List ℕ)
+    → Asks words asked name → told name ≡ Some file → (status ≡ 4 → (lent : List ℕ) → fault lent → ⊥) → module_fault file ≡ None → Reply words told fault status text → Done asked file status text
+replied_done words told fault asked name file status text asks is_told steady is (without_file status' text' alone) = absurd (no_file words asked name asks alone)
+replied_done words told fault asked name file status text asks is_told steady is (read_fault other lent asks' failed) = absurd (steady refl lent failed)
+replied_done words told fault asked name file status text asks is_told steady is (answered other lent read status' text' asks' are_told answer) =
+    let same = same_request asks' asks in
+    let lent_told : told lent ≡ Some file = ap told same.1 ∙ is_told in
+    let file_is : read ≡ file = subst (λ (t : Option (List ℕ)). AreTold t read) lent_told are_told in
+    let here : Answered asked read status text = subst (λ (c : Command). Answered c read status text) same.0 answer in
+    done_of is (subst (λ (b : List ℕ). Answered asked b status text) file_is here)
+
+pub accepted_reply : (words : List (List ℕ)) (told : List ℕ → Option (List ℕ)) (before after : ℕ) (opened : Option (List ℕ)) (failed : Bool) (asked : Command) (name file : List ℕ) (status : ℕ) (text : List ℕ)
+    → Asks words asked name → told name ≡ Some file → (Rose before after → ⊥) → module_fault file ≡ None → IsAccepted asked file
+    → Reply words told (ReadFailed before after opened failed) status text → (status ≡ 0) × IsAcceptedText asked file text
+accepted_reply words told before after opened failed asked name file status text asks is_told steady is accepted reply =
+    accepted_done asked file status text accepted (replied_done words told (ReadFailed before after opened failed) asked name file status text asks is_told (λ four lent fault. steady fault.0) is reply)
+
+-- what was answered of a module that was read is what the command gives
+pub exact_reply : {words : List (List ℕ)} {told : List ℕ → Option (List ℕ)} {fault : List ℕ → Type 0} {Wrote : List ℕ → Type 0} (result : ℕ)
+    → (result ≢ 5 → result ≢ 6 → (text : List ℕ) × Wrote text × Reply words told fault result text)
+    → (asked : Command) (name file : List ℕ) → Asks words asked name → told name ≡ Some file → module_fault file ≡ None → result ≢ 4 → result ≢ 5 → result ≢ 6
+    → (text : List ℕ) × Wrote text × Done asked file result text
+exact_reply {words} {told} {fault} {Wrote} result replied asked name file asks is_told is not_four not_five not_six =
+    let r = replied not_five not_six in
+    (r.0, r.1, replied_done words told fault asked name file result r.0 asks is_told (λ four lent failed. not_four four) is r.2)
 
 IfOk-map : {T E : Type 0} {P Q : T → Type 0} (r : Result T E) → ((x : T) → P x → Q x) → IfOk r P → IfOk r Q
 IfOk-map (Ok x) f holds = f x holds
@@ -170,21 +232,32 @@ module_is file m of = rw (sym of.functions, sym of.tables, sym of.image) refl
 abbrev Answer : Type 0
 Answer = Result (Status × List ℕ) OutOfMemory
 
-pub verified : (file : List ℕ) (m : Module) (asked : Command) (result : Answer) → asked ≡ command.Verify → IsModuleOf file m → IfOk result (λ reply. Judged m reply.0.0 reply.1) → IfOk result (λ reply. Answered asked file reply.0.0 reply.1)
+pub verified : (file : List ℕ) (m : Module) (asked : Command) (result : Answer) → asked ≡ command.Verify → IsModuleOf file m → IfOk result (λ reply. Judged m (IsSafeLine m) reply.0.0 reply.1) → IfOk result (λ reply. Answered asked file reply.0.0 reply.1)
 verified file m asked result is of judged =
     IfOk-map result
     (λ reply verdict. subst (λ (c : Command). Answered c file reply.0.0 reply.1) (sym is)
-    (done reply.0.0 reply.1 of.rules (subst (λ (n : Module). Judged n reply.0.0 reply.1) (module_is file m of) verdict)))
+    (done reply.0.0 reply.1 of.rules (subst (λ (n : Module). Judged n (IsSafeLine n) reply.0.0 reply.1) (module_is file m of) verdict)))
     judged
 
-pub verified_safe : (file : List ℕ) (m : Module) (asked : Command) (result : Answer) → IsModuleOf file m → IfOk result (λ reply. reply.0.0 ≡ 0 → IsSandboxedFile m.image.bytes) → IfOk result (λ reply. asked ≡ command.Verify → reply.0.0 ≡ 0 → IsSandboxedFile file)
+pub reported : (file : List ℕ) (m : Module) (asked : Command) (result : Answer) → asked ≡ command.Report → IsModuleOf file m → IfOk result (λ reply. Judged m (IsLeastReport m) reply.0.0 reply.1) → IfOk result (λ reply. Answered asked file reply.0.0 reply.1)
+reported file m asked result is of judged =
+    IfOk-map result
+    (λ reply verdict. subst (λ (c : Command). Answered c file reply.0.0 reply.1) (sym is)
+    (done reply.0.0 reply.1 of.rules (subst (λ (n : Module). Judged n (IsLeastReport n) reply.0.0 reply.1) (module_is file m of) verdict)))
+    judged
+
+pub verified_safe : (file : List ℕ) (m : Module) (asked : Command) (result : Answer) → IsModuleOf file m → IfOk result (λ reply. reply.0.0 ≡ 0 → IsSandboxedFile m.image.bytes) → IfOk result (λ reply. Judges asked → reply.0.0 ≡ 0 → IsSandboxedFile file)
 verified_safe file m asked result of stays_safe =
-    IfOk-map result (λ reply stays verifies zero. subst IsSandboxedFile (bytes_of file m of) (stays zero)) stays_safe
+    IfOk-map result (λ reply stays judges zero. subst IsSandboxedFile (bytes_of file m of) (stays zero)) stays_safe
 
 pub informed : (file : List ℕ) (m : Module) (asked : Command) (text : List ℕ) → asked ≡ command.Info → IsModuleOf file m
     → text ≡ info_text (declared_functions m.image.bytes) (declared_tables m.image.bytes) (file_imports m.image.bytes) → Answered asked file 0 text
 informed file m asked text is of made =
     subst (λ (c : Command). Answered c file 0 text) (sym is) (done 0 text of.rules (refl, rw (bytes_of file m of) at made))
+
+pub code_listed : (file : List ℕ) (m : Module) (asked : Command) (text : List ℕ) → asked ≡ command.List → IsModuleOf file m → IsListing m text → Answered asked file 0 text
+code_listed file m asked text is of lists =
+    subst (λ (c : Command). Answered c file 0 text) (sym is) (done 0 text of.rules (refl, subst (λ (n : Module). IsListing n text) (module_is file m of) lists))
 
 pub refused : (file : List ℕ) (asked : Command) (rule offset : ℕ) (text : List ℕ) → module_fault file ≡ Some (rule, offset) → text ≡ malformed_line rule offset → Answered asked file 2 text
 refused file asked rule offset text broken made = subst (λ (t : List ℕ). Answered asked file 2 t) (sym made) (malformed rule offset broken)

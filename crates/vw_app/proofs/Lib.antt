@@ -1,6 +1,9 @@
 pub mod Pieces
-pub mod Coverage
+pub mod Texts
+pub mod Listings
+pub mod Least
 pub mod Places
+pub mod Reports
 pub mod Told
 pub mod Names
 pub mod Answers

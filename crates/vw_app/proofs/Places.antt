@@ -14,7 +14,8 @@ use Rattle.vw_state.specs.Tables.{state_of}
 use Rattle.vw_checks.specs.Checks.{Fails}
 use Rattle.vw_verdict.specs.Places.{FailsFirst, IsPlaceIn, stops, fails}
 use Rattle.vw_verdict.specs.Verdicts.{IsPlaceOf}
-use Rattle.vw_app.proofs.Coverage.{OneLeast, least_stops, least_stable}
+use Rattle.vw_state.specs.Rounds.{IsLeast}
+use Rattle.vw_app.proofs.Least.{OneLeastIn, least_stops, least_stable}
 
 some_is : {A : Type 0} {x y : A} → Some x ≡ Some y → x ≡ y
 some_is e = cc
@@ -52,37 +53,39 @@ module _ {f : Context} {table : List PointState} where
             (second.fails.1 check (subst (λ (s : Parts). Fails f at' s check) (sym state) also)),
       )
 
-module _ (one_least : OneLeast) where
-  place_once : {f : Context} {at check at' check' : ℕ} → IsPlaceIn f at check → IsPlaceIn f at' check' → (at ≡ at') × (check ≡ check')
-  place_once {f} {at} {check} {at'} {check'} (stops number pairs table round stop) (stops number' pairs' table' round' stop') =
-      let same = one_least f table' table (least_stops round' stop') (least_stops round stop) in
+-- where a function has one least table, it has one place
+module _ {f : Context} (one_least : (table other : List PointState) → IsLeast f table → IsLeast f other → table ≡ other) where
+  place_once : {at check at' check' : ℕ} → IsPlaceIn f at check → IsPlaceIn f at' check' → (at ≡ at') × (check ≡ check')
+  place_once {at} {check} {at'} {check'} (stops number pairs table round stop) (stops number' pairs' table' round' stop') =
+      let same = one_least table' table (least_stops round' stop') (least_stops round stop) in
       stop_same stop (subst (λ (t : List PointState). StopsAt f t at' check') same stop')
-  place_once {f} {at} {check} {at'} {check'} (stops number pairs table round stop) (fails number' pairs' table' round' stable first) =
-      let same = one_least f table table' (least_stops round stop) (least_stable round' stable) in
+  place_once {at} {check} {at'} {check'} (stops number pairs table round stop) (fails number' pairs' table' round' stable first) =
+      let same = one_least table table' (least_stops round stop) (least_stable round' stable) in
       let here = subst (λ (t : List PointState). StopsAt f t at check) same stop in
       absurd (stable.passes at here.state here.there check here.fails)
-  place_once {f} {at} {check} {at'} {check'} (fails number pairs table round stable first) (stops number' pairs' table' round' stop) =
-      let same = one_least f table' table (least_stops round' stop) (least_stable round stable) in
-      let here = subst (λ (t : List PointState). StopsAt f t at' check') same stop in
+  place_once {at} {check} {at'} {check'} (fails number pairs table round stable first) (stops number' pairs' table' round' stop') =
+      let same = one_least table' table (least_stops round' stop') (least_stable round stable) in
+      let here = subst (λ (t : List PointState). StopsAt f t at' check') same stop' in
       absurd (stable.passes at' here.state here.there check' here.fails)
-  place_once {f} {at} {check} {at'} {check'} (fails number pairs table round stable first) (fails number' pairs' table' round' stable' first') =
-      let same = one_least f table' table (least_stable round' stable') (least_stable round stable) in
+  place_once {at} {check} {at'} {check'} (fails number pairs table round stable first) (fails number' pairs' table' round' stable' first') =
+      let same = one_least table' table (least_stable round' stable') (least_stable round stable) in
       first_same first (subst (λ (t : List PointState). FailsFirst f t at' check') same first')
 
-  by_order : (a b : ℕ) → (a < b → ⊥) → (b < a → ⊥) → a ≡ b
-  by_order a b not_less not_greater = equal (nat_lt a b) refl (nat_lt b a) refl
-    where
-      equal : (less : Bool) → nat_lt a b ≡ less → (greater : Bool) → nat_lt b a ≡ greater → a ≡ b
-      equal true is greater also = absurd (not_less (grind (arith, nat_tests, is)))
-      equal false is true also = absurd (not_greater (grind (arith, nat_tests, also)))
-      equal false is false also = grind (arith, nat_tests, is, also)
+by_order : (a b : ℕ) → (a < b → ⊥) → (b < a → ⊥) → a ≡ b
+by_order a b not_less not_greater = equal (nat_lt a b) refl (nat_lt b a) refl
+  where
+    equal : (less : Bool) → nat_lt a b ≡ less → (greater : Bool) → nat_lt b a ≡ greater → a ≡ b
+    equal true is greater also = absurd (not_less (grind (arith, nat_tests, is)))
+    equal false is true also = absurd (not_greater (grind (arith, nat_tests, also)))
+    equal false is false also = grind (arith, nat_tests, is, also)
 
+module _ {m : Module} (one_least : OneLeastIn m) where
   -- two places of a module agree
-  pub one_place : {m : Module} {place other : Place} (one : IsPlaceOf m place) (two : IsPlaceOf m other) → (one.function ≡ two.function) × (place.at ≡ other.at) × (place.check ≡ other.check)
-  one_place {m} {place} {other} one two =
+  pub one_place : {place other : Place} (one : IsPlaceOf m place) (two : IsPlaceOf m other) → (one.function ≡ two.function) × (place.at ≡ other.at) × (place.check ≡ other.check)
+  one_place {place} {other} one two =
       let number : one.number ≡ two.number = by_order one.number two.number
       (λ less. two.before one.number one.function less one.is place.at place.check one.fails)
       (λ less. one.before two.number two.function less two.is other.at other.check two.fails) in
       let same : one.function ≡ two.function = some_is (sym one.is ∙ (ap (λ (k : ℕ). slice_get m.functions k) number ∙ two.is)) in
-      let once = place_once one.fails (subst (λ (g : Function). IsPlaceIn (context_of m g) other.at other.check) (sym same) two.fails) in
+      let once = place_once (one_least one.number one.function one.is) one.fails (subst (λ (g : Function). IsPlaceIn (context_of m g) other.at other.check) (sym same) two.fails) in
       (same, once.0, once.1)

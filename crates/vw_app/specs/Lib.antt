@@ -1,3 +1,3 @@
-pub mod Covered
 pub mod Lines
+pub mod Listing
 pub mod Answer

@@ -30,9 +30,6 @@ usage_line =
 unfoldable pub safe_line : ℕ → List ℕ
 safe_line count = line (codes "safe, functions " ++ decimal count)
 
-unfoldable pub uncovered_line : List ℕ
-uncovered_line = line (codes "not built yet")
-
 unfoldable pub read_fault_line : List ℕ
 read_fault_line = line (codes "read fault")
 

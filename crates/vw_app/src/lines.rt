@@ -69,15 +69,6 @@ pub fn malformed_text(alloc: Global, rule: u8, offset: u64) -> Result<Text, OutO
     Ok(text)
 }
 
-/// A line as text.
-pub fn text_of(alloc: Global, line: &[u8]) -> Result<Text, OutOfMemory>
-    ensures { IfOk result (λ text. text ≡ line.now) }
-{
-    let mut text = Text::new(alloc);
-    text.push(line)?;
-    Ok(text)
-}
-
 /// Appends a name: visible ASCII characters other than the backslash as they are, and each other byte as
 /// `\x` and two hexadecimal digits.
 pub fn push_name(text: &mut Text, name: &[u8]) -> Result<(), OutOfMemory>

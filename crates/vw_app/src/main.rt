@@ -1,10 +1,10 @@
 //! Decides whether the functions of a module stay inside their sandbox.
 #![tactic(auto)]
 
-mod covered;
 mod info;
 mod laws;
 mod lines;
+mod listing;
 mod program;
 mod request;
 mod round_trip;

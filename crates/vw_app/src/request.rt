@@ -1,16 +1,23 @@
-ghost use Rattle.std.specs.Prelude.{◌≡◌, ◌↔◌, map, string_bytes, IsTrue, IfSome, IfNone, List, ℕ};
-ghost use Rattle.vw_app.specs.Answer.{Asks, word};
+ghost use Rattle.std.specs.Prelude.{◌≡◌, ◌↔◌, ◌^◌, ◌<◌, ◌≤◌, map, string_bytes, IsTrue, IfSome, IfNone, List, ℕ};
+ghost use Rattle.std.specs.Fmt.{decimal};
+ghost use Rattle.vw_app.specs.Answer.{Asks, AsksModule, word};
+
+use vw_report::decimal_of;
 
 /// What the program is asked to do with a file.
 #[derive(Clone, Copy, Debug, PartialEq, Eq)]
 pub enum Command {
     /// Say whether every function stays in its sandbox.
     Verify,
+    /// Say the same, and print the least tables where it is so.
+    Report,
+    /// List the code of every function.
+    List,
     /// List the functions, tables and imports.
     Info,
 }
 
-/// The command and the name of the file that the words ask for. None where they are no form of the program.
+/// The command and the name of the file that the words ask for. None where they ask for no file.
 pub fn request_of<'a>(words: &'a [String]) -> Option<(Command, &'a str)>
     ensures asks { IfSome result (λ request. Asks (map string_bytes words.now) request.0 request.1.now) }
     ensures none { IfNone result ((command : Command) (name : List ℕ) → Asks (map string_bytes words.now) command name → ⊥) }
@@ -27,7 +34,41 @@ fn command_of(command: &String) -> Option<Command>
 {
     match command.as_str() {
         "verify" => Some(Command::Verify),
+        "report" => Some(Command::Report),
+        "list" => Some(Command::List),
         "info" => Some(Command::Info),
         _ => None,
+    }
+}
+
+/// The number of functions, 1 to 65,536, and the number from which the words ask a module to be made. None where they ask
+/// for no such module.
+pub fn module_of(words: &[String]) -> Option<(u32, u64)>
+    ensures asks { IfSome result (λ numbers. AsksModule (map string_bytes words.now) numbers.0 numbers.1) }
+    ensures none { IfNone result ((functions number : ℕ)
+        → AsksModule (map string_bytes words.now) functions number → ⊥) }
+{
+    match words {
+        [command, functions, number] => match command.as_str() {
+            "make" => numbers_of(functions, number),
+            _ => None,
+        },
+        _ => None,
+    }
+}
+
+// A number of functions and a number, from their digits.
+fn numbers_of(functions: &String, number: &String) -> Option<(u32, u64)>
+    ensures are { IfSome result (λ n. (string_bytes functions.now ≡ decimal n.0) × (1 ≤ n.0) × (n.0 ≤ 65536)
+        × (string_bytes number.now ≡ decimal n.1)) }
+    ensures none { IfNone result ((m n : ℕ) → string_bytes functions.now ≡ decimal m → 1 ≤ m → m ≤ 65536
+        → string_bytes number.now ≡ decimal n → n < 2 ^ 64 → ⊥) }
+{
+    let number = decimal_of(number.as_bytes())?;
+    let functions = decimal_of(functions.as_bytes())?;
+    if 1 <= functions && functions <= 65_536 {
+        Some((functions as u32, number))
+    } else {
+        None
     }
 }

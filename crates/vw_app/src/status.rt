@@ -4,7 +4,7 @@ pub struct Status(pub u8);
 
 impl Status {
     /// Done, or safe.
-    pub const SAFE: Status = Status(0);
+    pub const DONE: Status = Status(0);
     /// A check fails.
     pub const UNSAFE: Status = Status(1);
     /// A rule of modules breaks.
@@ -17,6 +17,4 @@ impl Status {
     pub const WRITE_FAULT: Status = Status(5);
     /// Memory was refused.
     pub const OUT_OF_MEMORY: Status = Status(6);
-    /// This version does not cover the file.
-    pub const NOT_COVERED: Status = Status(8);
 }

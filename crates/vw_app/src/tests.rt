@@ -56,7 +56,7 @@ fn answer<F: Shelf>(
     Ok((status, sink))
 }
 
-// Functions by their code: safe ones, checks that fail, and instructions that are not covered.
+// Functions by their code: safe ones, and checks that fail.
 const VERDICTS: [(&str, u8, &str); 28] = [
     ("8b8700000000c3", 0, "safe, functions 1\n"),
     ("8b87f8ffffffc3", 1, "unsafe, f+0x0, C4 address\n"),
@@ -94,7 +94,7 @@ const VERDICTS: [(&str, u8, &str); 28] = [
     ("8b47f8eb7f", 1, "unsafe, f+0x3, C2 jump\n"),
     // a jump through a register that no jump comes to, and one behind a branch that fails a check
     ("eb02ffe0c3", 0, "safe, functions 1\n"),
-    ("757fffe0", 8, "not built yet\n"),
+    ("757fffe0", 1, "unsafe, f+0x0, C2 jump\n"),
     ("757f90c3", 1, "unsafe, f+0x0, C2 jump\n"),
 ];
 
@@ -137,8 +137,38 @@ const FRAMES: [(&str, u8, &str); 28] = [
     ("e8fbffffffe8f6ffffffc3", 1, "unsafe, f+0x5, C7 call\n"),
     ("57e8faffffff5fe8f4ffffffc3", 0, "safe, functions 1\n"),
     ("e800000000c3", 1, "unsafe, f+0x0, C7 call\n"),
-    ("ffd0c3", 8, "not built yet\n"),
+    ("ffd0c3", 1, "unsafe, f+0x0, C7 call\n"),
 ];
+
+// A switch: three cases by a table of jumps behind the code, whose fourth entry leads out of the function, with the bound
+// that the table needs and with one entry more; a jump of which no table is known; and a table of one entry to itself,
+// in a loop.
+const SWITCHES: [(&str, u8, &str); 4] = [
+    (
+        "83fe03731489f0488d0d0c0000004863048\
+         14801c8ffe0c3c3c3fdfffffffeffffffffffffff00100000",
+        0,
+        "safe, functions 1\n",
+    ),
+    (
+        "83fe03771489f0488d0d0c0000004863048\
+         14801c8ffe0c3c3c3fdfffffffeffffffffffffff00100000",
+        1,
+        "unsafe, f+0x15, C2 jump\n",
+    ),
+    ("488d0500000000ffe0c3", 1, "unsafe, f+0x7, C2 jump\n"),
+    (
+        "83fe01731489f0488d0d0c00000048630481\
+         4801c8ffe0c3c3c3e6ffffff",
+        0,
+        "safe, functions 1\n",
+    ),
+];
+
+#[test]
+fn verdicts_on_switches(rt: HostRuntime) -> Result<(), Fail> {
+    judge_each(&rt, &SWITCHES)
+}
 
 #[test]
 fn verdicts(rt: HostRuntime) -> Result<(), Fail> {
@@ -229,7 +259,9 @@ fn words(rt: HostRuntime) -> Result<(), Fail> {
         &["verify"],
         &["-", "verify"],
         &["verify", "-", "-"],
-        &["list", "-"],
+        &["list"],
+        &["report"],
+        &["report", "-", "-"],
         &["verify", "m", "m"],
         &["info"],
     ] {
@@ -316,6 +348,174 @@ fn information(rt: HostRuntime) -> Result<(), Fail> {
     let mut shelf = NeverFails::new(List::from_vec(other));
     let broken = (2, "malformed, rule 6 at 18\n");
     expect(&rt, &["info", "m"], &mut shelf, &[], broken)
+}
+
+/// The report of an endless jump: one point, at which all is known that is known at the entry.
+const ENDLESS: &str = "veriwasm report 1
+function 0000000000000078
+at 00000000 p0 orsp=+0 vrax=num vrcx=num vrdx=num vrbx=entry:rbx vrbp=entry:rbp vrsi=num vrdi=heapbase vr8=num vr9=num vr10=num vr11=num vr12=entry:r12 vr13=entry:r13 vr14=entry:r14 vr15=entry:r15
+end
+";
+
+// An endless jump, a function that is not safe, a module without functions, and a file that is none.
+#[test]
+fn reports(rt: HostRuntime) -> Result<(), Fail> {
+    let alloc = rt.alloc();
+    for (code, status, text) in [
+        ([0xEB, 0xFE].as_slice(), 0, ENDLESS),
+        (&[0x90], 1, "unsafe, f+0x1, C1 code\n"),
+        (&[], 0, "veriwasm report 1\nend\n"),
+    ] {
+        assert!(rt; code.len() <= 100);
+        let file = smallest_module(alloc, code)?;
+        let mut shelf = shelf(alloc, "m", file.as_slice(), &[])?;
+        expect(&rt, &["report", "m"], &mut shelf, &[], (status, text))?;
+    }
+    let mut lacking = shelf(alloc, "n", b"", &[])?;
+    expect(
+        &rt,
+        &["report", "m"],
+        &mut lacking,
+        &[],
+        (4, "read fault\n"),
+    )?;
+    let mut empty = NeverFails::new(List::new(alloc));
+    let broken = (2, "malformed, rule 2 at 0\n");
+    expect(&rt, &["report", "m"], &mut empty, &[], broken)?;
+    expect(&rt, &["report", "m"], &mut empty, &[1], (5, ""))
+}
+
+/// `mov esi, esi`, `mov eax, [rdi + rsi + 0xBDBF]`, `ret`.
+const FIRST_GUEST: [u8; 10] = [0x89, 0xF6, 0x8B, 0x84, 0x37, 0xBF, 0xBD, 0, 0, 0xC3];
+
+// A file in which some bytes at a place are others.
+fn patched(alloc: Global, file: &[u8], at: usize, piece: &[u8]) -> Result<MemoryShelf, Fail> {
+    let mut bytes = file.to_vec(alloc)?;
+    for (index, byte) in piece.iter().enumerate() {
+        if let Some(place) = bytes.get_mut(at.saturating_add(index)) {
+            *place = *byte;
+        }
+    }
+    shelf(alloc, "m", bytes.as_slice(), &[])
+}
+
+// A module of one function that is made from the number 0, and verdicts on it: as it is, with a dynamic entry whose tag
+// no rule names and with one of an initialiser, and with a first segment that ends where the second begins and one byte
+// behind it.
+#[test]
+fn modules_from_numbers(rt: HostRuntime) -> Result<(), Fail> {
+    let alloc = rt.alloc();
+    let mut lacking = shelf(alloc, "n", b"", &[])?;
+    let (status, sink) = answer(alloc, &["make", "1", "0"], &mut lacking, &[])?;
+    assert_eq!(rt; status, Status(0));
+    let file = sink.taken();
+    assert_eq!(rt; file.len(), 4568);
+    assert!(rt;
+        file.windows(10)
+            .any(|window| window == FIRST_GUEST.as_slice())
+    );
+    let safe = (0, "safe, functions 1\n");
+    let cases: [(usize, &[u8], (u8, &str)); 5] = [
+        (0, &[], safe),
+        (4192, &[30], safe),
+        (4192, &[12], (2, "malformed, rule 18 at 4192\n")),
+        (104, &[0, 16, 0], safe),
+        (104, &[1, 16, 0], (2, "malformed, rule 11 at 120\n")),
+    ];
+    for (at, piece, answer) in cases {
+        let mut shelf = patched(alloc, file, at, piece)?;
+        expect(&rt, &["verify", "m"], &mut shelf, &[], answer)?;
+    }
+    expect(&rt, &["make", "1", "0"], &mut lacking, &[1], (5, ""))?;
+    let last = answer(
+        alloc,
+        &["make", "1", "18446744073709551615"],
+        &mut lacking,
+        &[],
+    )?;
+    assert_eq!(rt; last.0, Status(0));
+    assert_eq!(rt; last.1.taken().len(), 4568);
+    Ok(())
+}
+
+// Numbers of functions outside 1 to 65,536, numbers from 2^64 on, and digits that are no number's.
+#[test]
+fn numbers_that_ask_for_no_module(rt: HostRuntime) -> Result<(), Fail> {
+    let mut lacking = shelf(rt.alloc(), "n", b"", &[])?;
+    for words in [
+        ["make", "0", "0"].as_slice(),
+        &["make", "65537", "0"],
+        &["make", "01", "0"],
+        &["make", "1", "00"],
+        &["make", "+1", "0"],
+        &["make", "1", "-0"],
+        &["make", "1", ""],
+        &["make", "1", "18446744073709551616"],
+        &["make", "1"],
+        &["make", "1", "0", "0"],
+        &["verify", "1", "0"],
+    ] {
+        expect(&rt, words, &mut lacking, &[], (3, USAGE))?;
+    }
+    Ok(())
+}
+
+// Functions by their code, with what is listed of them: the smallest read of the heap; a byte that begins no instruction;
+// a jump over code that no jump comes to; the switch that is safe, and the one that is stopped before its cases.
+const LISTINGS: [(&str, &str); 5] = [
+    (
+        "8b8700000000c3",
+        "function f\n+0x0 8b8700000000 mov eax, [rdi+0x0]\n+0x6 c3 ret\n",
+    ),
+    ("f290c3", "function f\n+0x0 ?\n"),
+    (
+        "eb02ffe090",
+        "function f\n+0x0 eb02 jmp +0x4\n+0x4 90 nop\n+0x5 ?\n",
+    ),
+    (
+        "83fe03731489f0488d0d0c0000004863048\
+         14801c8ffe0c3c3c3fdfffffffeffffffffffffff00100000",
+        "function f
++0x0 83fe03 cmp esi, 0x3
++0x3 7314 jae +0x19
++0x5 89f0 mov eax, esi
++0x7 488d0d0c000000 lea rcx, [rip+0xc]
++0xe 48630481 movsxd rax, [rcx+rax*4+0x0]
++0x12 4801c8 add rax, rcx
++0x15 ffe0 jmp rax
++0x17 c3 ret
++0x18 c3 ret
++0x19 c3 ret
+",
+    ),
+    (
+        "83fe03771489f0488d0d0c0000004863048\
+         14801c8ffe0c3c3c3fdfffffffeffffffffffffff00100000",
+        "function f
++0x0 83fe03 cmp esi, 0x3
++0x3 7714 ja +0x19
++0x5 89f0 mov eax, esi
++0x7 488d0d0c000000 lea rcx, [rip+0xc]
++0xe 48630481 movsxd rax, [rcx+rax*4+0x0]
++0x12 4801c8 add rax, rcx
++0x15 ffe0 jmp rax
++0x19 c3 ret
+",
+    ),
+];
+
+#[test]
+fn listings(rt: HostRuntime) -> Result<(), Fail> {
+    let alloc = rt.alloc();
+    for (hex, text) in LISTINGS.iter() {
+        let code = from_hex(alloc, hex)?;
+        assert!(rt; code.len() <= 100);
+        let file = smallest_module(alloc, code.as_slice())?;
+        let mut shelf = shelf(alloc, "m", file.as_slice(), &[])?;
+        expect(&rt, &["list", "m"], &mut shelf, &[], (0, *text))?;
+    }
+    let mut shelf = NeverFails::new(List::from_vec(smallest_module(alloc, &[])?));
+    expect(&rt, &["list", "m"], &mut shelf, &[], (0, ""))
 }
 
 // A sink that takes one byte at a time and then fails.

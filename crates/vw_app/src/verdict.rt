@@ -1,33 +1,31 @@
-ghost use Rattle.std.specs.Prelude.{◌≡◌, ◌≢◌, ℕ, ◌<◌, Some, IfOk};
+ghost use Rattle.std.specs.Prelude.{◌≡◌, ◌≢◌, ℕ, ◌<◌, IfOk};
 ghost use Rattle.vw_rows.specs.Numbers.{IsBytes};
 ghost use Rattle.vw_layout.specs.declared.functions.Function.{Function};
 ghost use Rattle.vw_layout.specs.Layout.{IsWhole};
 ghost use Rattle.vw_checks.specs.Modules.{IsNumbered};
 ghost use Rattle.vw_sandbox.specs.Sandboxed.{IsSandboxedFile};
-ghost use Rattle.vw_verdict.specs.Verdicts.{IsJudgement, IsPlaceOf};
-ghost use Rattle.vw_app.specs.Answer.{Judged};
+ghost use Rattle.vw_verdict.specs.Verdicts.{IsPlaceOf};
+ghost use Rattle.vw_app.specs.Answer.{IsLeastReport, IsSafeLine, Judged};
 ghost use Rattle.vw_app.specs.Lines.{unsafe_line};
 
-use crate::covered::is_covered_module;
-use crate::lines::{safe_text, text_of, unsafe_text};
+use crate::lines::{safe_text, unsafe_text};
 use crate::status::Status;
 use std::alloc::Global;
 use std::marker::Brand;
 use std::sync::ledger::{Blank, Ledger};
 use vw_bits::{OutOfMemory, Text};
-use vw_checks::passing_code_is_covered;
 use vw_layout::{Module, functions_ascend};
+use vw_report::write_report;
 use vw_sandbox::safe_tables_are_sandboxed;
 use vw_solver::Steps;
-use vw_state::Place;
-use vw_verdict::find_place;
-
-const NOT_COVERED: &[u8] = b"not built yet\n";
+use vw_state::{Place, Verdict};
+use vw_verdict::{find_place, judge};
 
 /// The status and the line of the verdict on a module.
 pub fn verify(alloc: Global, loaded: &Module) -> Result<(Status, Text), OutOfMemory>
     requires { IsWhole loaded.now }
-    ensures judged { IfOk result (λ reply. Judged loaded.now reply.0.0 reply.1) }
+    ensures judged { IfOk result (λ reply.
+        Judged loaded.now (IsSafeLine loaded.now) reply.0.0 reply.1) }
     ensures safe { IfOk result (λ reply. reply.0.0 ≡ 0 → IsSandboxedFile loaded.now.image.bytes) }
     ensures no_fault { IfOk result (λ reply. reply.0.0 ≢ 5) }
     ensures no_want { IfOk result (λ reply. reply.0.0 ≢ 6) }
@@ -45,43 +43,59 @@ fn verify_from<L: Ledger>(
     requires name { blank.name ≡ L.name }
     requires parts { blank.parts ≡ L.parts }
     requires some { 0 < L.parts }
-    ensures judged { IfOk result (λ reply. Judged loaded.now reply.0.0 reply.1) }
+    ensures judged { IfOk result (λ reply.
+        Judged loaded.now (IsSafeLine loaded.now) reply.0.0 reply.1) }
     ensures safe { IfOk result (λ reply. reply.0.0 ≡ 0 → IsSandboxedFile loaded.now.image.bytes) }
     ensures no_fault { IfOk result (λ reply. reply.0.0 ≢ 5) }
     ensures no_want { IfOk result (λ reply. reply.0.0 ≢ 6) }
 {
     let mut steps: Steps<L> = Steps::from_blank(blank);
     safe_tables_are_sandboxed();
-    passing_code_is_covered();
     as_bytes(loaded.image.bytes());
     match find_place(alloc, loaded, &mut steps)? {
         None => {
             let text = safe_text(alloc, loaded.functions.as_slice().len())?;
-            Ok((Status::SAFE, text))
+            Ok((Status::DONE, text))
         }
-        Some(place) => refuse(alloc, loaded, place, &mut steps),
+        Some(place) => Ok((Status::UNSAFE, place_text(alloc, loaded, place)?)),
     }
 }
 
-// The status and the line of a module where a check fails at a place: that this version does not cover the module, or
-// the place. Safe tables have no instruction that it does not cover, so nobody else has to ask for that.
-fn refuse<L: Ledger>(
-    alloc: Global,
-    loaded: &Module,
-    place: Place,
-    steps: &mut Steps<L>,
-) -> Result<(Status, Text), OutOfMemory>
-    requires whole { IsWhole loaded.now }
-    requires verdict { IsJudgement loaded.now (Some place) }
-    ensures judged { IfOk result (λ reply. Judged loaded.now reply.0.0 reply.1) }
-    ensures not_safe { IfOk result (λ reply. reply.0.0 ≢ 0) }
+/// The status and the text of the verdict on a module, where a safe module's text is the report of its least tables.
+pub fn report(alloc: Global, loaded: &Module) -> Result<(Status, Text), OutOfMemory>
+    requires { IsWhole loaded.now }
+    ensures judged { IfOk result (λ reply.
+        Judged loaded.now (IsLeastReport loaded.now) reply.0.0 reply.1) }
+    ensures safe { IfOk result (λ reply. reply.0.0 ≡ 0 → IsSandboxedFile loaded.now.image.bytes) }
     ensures no_fault { IfOk result (λ reply. reply.0.0 ≢ 5) }
     ensures no_want { IfOk result (λ reply. reply.0.0 ≢ 6) }
 {
-    if !is_covered_module(alloc, loaded, steps)? {
-        return Ok((Status::NOT_COVERED, text_of(alloc, NOT_COVERED)?));
+    report_from::<Brand>(alloc, loaded, Blank::new(1))
+}
+
+/// The same, with a blank for the count of steps, which nobody reads.
+fn report_from<L: Ledger>(
+    alloc: Global,
+    loaded: &Module,
+    blank: Blank,
+) -> Result<(Status, Text), OutOfMemory>
+    requires whole { IsWhole loaded.now }
+    requires name { blank.name ≡ L.name }
+    requires parts { blank.parts ≡ L.parts }
+    requires some { 0 < L.parts }
+    ensures judged { IfOk result (λ reply.
+        Judged loaded.now (IsLeastReport loaded.now) reply.0.0 reply.1) }
+    ensures safe { IfOk result (λ reply. reply.0.0 ≡ 0 → IsSandboxedFile loaded.now.image.bytes) }
+    ensures no_fault { IfOk result (λ reply. reply.0.0 ≢ 5) }
+    ensures no_want { IfOk result (λ reply. reply.0.0 ≢ 6) }
+{
+    let mut steps: Steps<L> = Steps::from_blank(blank);
+    safe_tables_are_sandboxed();
+    as_bytes(loaded.image.bytes());
+    match judge(alloc, loaded, &mut steps)? {
+        Verdict::Safe(tables) => Ok((Status::DONE, write_report(alloc, &tables)?)),
+        Verdict::Unsafe(place) => Ok((Status::UNSAFE, place_text(alloc, loaded, place)?)),
     }
-    Ok((Status::UNSAFE, place_text(alloc, loaded, place)?))
 }
 
 /// The line for a place of the module where a check fails.

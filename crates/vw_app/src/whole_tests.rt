@@ -1,12 +1,13 @@
 ghost use Rattle.std.specs.Prelude.{◌≡◌, [], ◌∷◌, Some, None, IfOk};
 ghost use Rattle.vw_make.specs.Bounds.{MeetsBounds};
+ghost use Rattle.vw_make.specs.declared.parts.Target.{Target};
 
 use crate::tests::expect;
 use std::alloc::Global;
 use std::fs;
 use std::test::Fail;
 use vw_bits::{List, OutOfMemory, Text};
-use vw_make::{Func, Parts, write_module};
+use vw_make::{Func, Parts, Target, write_module};
 use vw_outside::{FileShelf, NeverFails, ReadError, read_all};
 
 /// `mov eax, [rdi + 0]` with four bytes of displacement, `ret`.
@@ -97,6 +98,103 @@ fn parts_of(alloc: Global) -> Result<Parts, OutOfMemory>
         content,
         binds,
     })
+}
+
+/// `mov rcx, [tables + 8]`, `mov eax, esi`, `cmp rax, rcx`, `jae` to the end, `shl rax, 4`, `mov rcx, [tables]`,
+/// `add rax, rcx`, `mov rdx, [rax]`, `cmp rdx, 5`, `jne` to the end, `call [rax + 8]`, `ret`, `ud2`.
+const TABLE_CALL: [u8; 43] = [
+    0x48, 0x8B, 0x0D, 0, 0, 0, 0, 0x89, 0xF0, 0x48, 0x39, 0xC8, 0x73, 0x1B, 0x48, 0xC1, 0xE0, 0x04,
+    0x48, 0x8B, 0x0D, 0, 0, 0, 0, 0x48, 0x01, 0xC8, 0x48, 0x8B, 0x10, 0x48, 0x83, 0xFA, 0x05, 0x75,
+    0x04, 0xFF, 0x50, 0x08, 0xC3, 0x0F, 0x0B,
+];
+/// `cmp esi, 2`, `jae` to the end, `mov eax, esi`, `lea rcx, [data]`, `movsxd rax, [rcx + rax * 4]`, `add rax, rcx`,
+/// `jmp rax`, `ret`.
+const SWITCH: [u8; 24] = [
+    0x83, 0xFE, 0x02, 0x73, 0x12, 0x89, 0xF0, 0x48, 0x8D, 0x0D, 0, 0, 0, 0, 0x48, 0x63, 0x04, 0x81,
+    0x48, 0x01, 0xC8, 0xFF, 0xE0, 0xC3,
+];
+
+const ZEROS: [u8; 8] = [0; 8];
+
+// A function that calls through a table, and one with a switch.
+fn callers_of(alloc: Global) -> Result<List<Func>, OutOfMemory>
+    ensures { IfOk result (λ fs. fs ≡ record { name = 102 ∷ []; code = TABLE_CALL; fixes = (3, Target.Tables 8) ∷ (21, Target.Tables 0) ∷ [] }
+        ∷ record { name = 103 ∷ []; code = SWITCH; fixes = (10, Target.Data 0) ∷ [] } ∷ []) }
+{
+    let first = Func {
+        name: text_of(alloc, b"f")?,
+        code: bytes_of(alloc, &TABLE_CALL)?,
+        fixes: pair_of(alloc, (3, Target::Tables(8)), (21, Target::Tables(0)))?,
+    };
+    let second = Func {
+        name: text_of(alloc, b"g")?,
+        code: bytes_of(alloc, &SWITCH)?,
+        fixes: list_of(alloc, (10, Target::Data(0)))?,
+    };
+    pair_of(alloc, first, second)
+}
+
+// These two functions, a table with an entry of tag 5 for the first one and an empty entry, and eight bytes of data
+// that are bound to an import.
+fn calling_parts(alloc: Global) -> Result<Parts, OutOfMemory>
+    ensures { IfOk result (λ parts. MeetsBounds parts) }
+{
+    let functions = callers_of(alloc)?;
+    let imports = list_of(alloc, text_of(alloc, b"a")?)?;
+    let tables = list_of(alloc, pair_of(alloc, (5, Some(0)), (0, None))?)?;
+    let content = bytes_of(alloc, &ZEROS)?;
+    let binds = list_of(alloc, (0, 0))?;
+    Ok(Parts {
+        functions,
+        imports,
+        tables,
+        content,
+        binds,
+    })
+}
+
+/// Where the functions stand: behind four relocations, at multiples of 16.
+const CALLER: usize = 384;
+
+const SWITCHER: usize = 432;
+
+/// The compared tag of the table call is that of an empty entry.
+const EMPTY_TAG: (usize, &[u8]) = (CALLER + 34, &[0xFF]);
+/// The tag is not compared: the code behind the comparison moves to the front of it.
+const NO_TEST: (usize, &[u8]) = (CALLER + 31, &[0xFF, 0x50, 8, 0xC3, 0x0F, 0x0B]);
+/// The branch to the end is as much shorter.
+const SHORTER: (usize, &[u8]) = (CALLER + 13, &[0x15]);
+/// The bound admits one entry more than the table has: `ja` for `jae`.
+const ABOVE: (usize, &[u8]) = (CALLER + 12, &[0x77]);
+/// The switch is a `ret`.
+const NO_SWITCH: (usize, &[u8]) = (SWITCHER, &[0xC3]);
+
+// A call through a table of functions with and without what it needs, and a switch over words that are bound to an
+// import, whose accesses fail too, but at a check that is asked later.
+#[test]
+fn calls_through_tables(rt: HostRuntime) -> Result<(), Fail> {
+    let alloc = rt.alloc();
+    let file = write_module(alloc, &calling_parts(alloc)?)?;
+    let cases: [(&[(usize, &[u8])], u8, &str); 5] = [
+        (&[NO_SWITCH], 0, "safe, functions 2\n"),
+        (&[], 1, "unsafe, g+0x15, C2 jump\n"),
+        (&[EMPTY_TAG], 1, "unsafe, f+0x25, C7 call\n"),
+        (&[NO_TEST, SHORTER], 1, "unsafe, f+0x1f, C7 call\n"),
+        (&[ABOVE, NO_SWITCH], 1, "unsafe, f+0x1c, C4 address\n"),
+    ];
+    for (patches, status, text) in cases {
+        let mut bytes = file.as_slice().to_vec(alloc)?;
+        for (at, piece) in patches {
+            for (index, byte) in piece.iter().enumerate() {
+                if let Some(place) = bytes.get_mut(at.saturating_add(index)) {
+                    *place = *byte;
+                }
+            }
+        }
+        let mut shelf = NeverFails::new(List::from_vec(bytes));
+        expect(&rt, &["verify", "m"], &mut shelf, &[], (status, text))?;
+    }
+    Ok(())
 }
 
 /// Worked out from the layout of written modules: the text begins at 480, behind seven relocations, and each

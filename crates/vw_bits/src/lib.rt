@@ -15,4 +15,4 @@ pub use memory::OutOfMemory;
 pub use records::{DynHeader, Segment, Symbol};
 pub use rights::Rights;
 pub use text::Text;
-pub use words::{low32, sign_extend, sum};
+pub use words::{draw, low32, sign_extend, sum};

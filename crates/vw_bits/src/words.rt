@@ -1,11 +1,21 @@
 ghost use Rattle.std.specs.Prelude.{◌≡◌, ◌+◌, ◌-◌, ◌*◌, ◌%◌, ◌^◌, ◌<◌, ◌≤◌, ◌⊎◌, nat_lt, if◌then◌else◌};
-ghost use Rattle.vw_bits.specs.Words.{sign_extended};
+ghost use Rattle.vw_bits.specs.Words.{sign_extended, next_draw};
 
 /// a + b modulo 2^64.
 pub fn sum(a: u64, b: u64) -> u64
     ensures { result ≡ (a + b) % 2 ^ 64 }
 {
     a.wrapping_add(b)
+}
+
+/// One draw of a linear congruential generator modulo 2^64: x times 6364136223846793005, and 1442695040888963407 more
+/// (Knuth, The Art of Computer Programming, volume 2, 3.3.4, the multiplier of MMIX). The high bits are the better ones.
+/// Takes no memory.
+pub fn draw(x: u64) -> u64
+    ensures { result ≡ next_draw x }
+{
+    x.wrapping_mul(6364136223846793005)
+        .wrapping_add(1442695040888963407)
 }
 
 /// The low 32 bits of a word.

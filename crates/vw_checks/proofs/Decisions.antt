@@ -13,7 +13,7 @@ use Rattle.vw_values.specs.declared.value.Value.{Value}
 use Rattle.vw_values.specs.declared.value.Value.TheVariants as value
 use Rattle.vw_domain.specs.Abstract.{Abstract}
 use Rattle.vw_domain.specs.Addresses.{Address, Frame, Heap, Globals, Image, Range, Entry, Unknown, value_of}
-use Rattle.vw_domain.specs.Checks.{IsInstanceWord, IsInside, BeginsInStack, ReadsInside, WritesInside, WritesOwn, ReadsKnown, is_saved, MayReturn}
+use Rattle.vw_domain.specs.Checks.{IsInstanceWord, IsInside, BeginsInStack, ReadsInside, WritesInside, WritesOwn, ReadsKnown, IsTableFn, is_saved, MayReturn}
 use Rattle.vw_domain.specs.Operands.{index_of}
 use Rattle.vw_domain.specs.Sites.{Site, AreReadable}
 use Rattle.vw_checks.specs.Checks.{MayEnter, MayEnterBy}
@@ -173,6 +173,10 @@ is_heap_base : (v : Value) → Decided (v ≡ value.HeapBase)
 is_heap_base value.HeapBase = inl refl
 is_heap_base v = inr (λ e. absurd cc)
 
+is_table_fn : (v : Value) → Decided (IsTableFn v)
+is_table_fn (value.TableFn t g) = always
+is_table_fn v = never
+
 is_entry : (v : Value) (r : ℕ) → Decided (v ≡ value.Entry r)
 is_entry (value.Entry q) r = held (is_number q r)
   where
@@ -196,7 +200,7 @@ may_enter (Some (target.Function number)) st = is_heap_base (value_of st 7)
 may_enter (Some (target.Stub stub)) st = is_heap_base (value_of st 7)
 
 pub may_enter_by : (src : Var) (st : Abstract) → Decided (MayEnterBy src st)
-may_enter_by src st = never
+may_enter_by src st = both (is_table_fn (value_of st (index_of src))) (is_heap_base (value_of st 7))
 
 -- the registers that the caller keeps are among the first sixteen
 is_few : (r : ℕ) → is_saved r ≡ true → r < 16

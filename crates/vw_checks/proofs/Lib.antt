@@ -6,4 +6,3 @@ mod Passing
 mod Readings
 mod Rest
 mod Points
-mod Built

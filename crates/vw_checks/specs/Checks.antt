@@ -12,9 +12,10 @@ use Rattle.vw_layout.specs.declared.calls.CallTarget.{CallTarget}
 use Rattle.vw_layout.specs.declared.calls.CallTarget.TheVariants as target
 use Rattle.vw_domain.specs.declared.parts.Parts.{Parts}
 use Rattle.vw_domain.specs.Abstract.{Abstract, abstract_of}
-use Rattle.vw_domain.specs.Addresses.{address_of}
-use Rattle.vw_domain.specs.Checks.{Passes as Permits, PassesAll, HasHeapBase, MayPush, MayReturn}
+use Rattle.vw_domain.specs.Addresses.{address_of, value_of}
+use Rattle.vw_domain.specs.Checks.{Passes as Permits, PassesAll, HasHeapBase, IsTableFn, MayPush, MayReturn}
 use Rattle.vw_domain.specs.EquationLaws.{NoFlow}
+use Rattle.vw_domain.specs.Operands.{index_of}
 use Rattle.vw_domain.specs.Statements.{apply}
 use Rattle.vw_state.specs.Code.{BeginsAt}
 use Rattle.vw_state.specs.Context.{Context, code_of, site_at}
@@ -35,9 +36,9 @@ MayEnter (Some target.Probe) st = Unit {0}
 MayEnter (Some (target.Function number)) st = HasHeapBase st
 MayEnter (Some (target.Stub stub)) st = HasHeapBase st
 
--- What a call through a register may enter. Tables of functions are not followed yet, so no such call may be made.
+-- A call through a register may enter the function of an entry of a table, whose tag is known, with the heap's base in rdi.
 abbrev pub MayEnterBy : Var → Abstract → Type 0
-MayEnterBy src st = ⊥
+MayEnterBy src st = IsTableFn (value_of st (index_of src)) × HasHeapBase st
 
 -- ---- what fails, by number
 

@@ -5,7 +5,6 @@ ghost use Rattle.vw_stmt.specs.Lifted.{IsLifted};
 ghost use Rattle.vw_layout.specs.declared.functions.Function.{Function};
 ghost use Rattle.vw_layout.specs.Layout.{IsWhole};
 ghost use Rattle.vw_domain.specs.Abstract.{abstract_of};
-ghost use Rattle.vw_domain.specs.State.{Fits};
 ghost use Rattle.vw_state.specs.Code.{code_at};
 ghost use Rattle.vw_state.specs.Context.{Context, context_of, IsSite};
 ghost use Rattle.vw_checks.specs.Checks.{IsLowestOf, StmtsFail, InsnFails, LowestFailing};
@@ -24,15 +23,16 @@ use vw_state::{Site, after_stmt, code_is_short, instruction_at};
 use vw_stmt::Stmt;
 
 /// The lowest number of the checks that fail at a point of a function with a state; `None` exactly where no
-/// check fails. This holds where the site is that of a declared function of the module. The state names no bounds but its
-/// own. The checks are 1, code: nothing decodes in the bytes from the point to the function's end, as at each point at or above
-/// its size; 2, jump: a direct jump or branch leaves the function, or a jump through a register stands there; and at each
-/// statement, with the state before it, 3, depth: a write of the frame, as the push of a call, begins below the probed
-/// part of the stack and the guard, or rsp is not known at a call; 4, address: an access is not all in the heap, the
-/// globals or what may be read; 5, read only: a write of the frame ends above it, or the image is written; 6, local: what is
-/// read of the frame was not written; 7, call: what a call enters, or that rdi then holds the heap's base, is not known;
-/// 8, return: rsp or a register that the caller keeps is not known to be as it was. OutOfMemory where the allocator
-/// refuses a request.
+/// check fails. This holds where the site is that of a declared function of the module.
+/// The checks are 1, code: nothing decodes in the bytes from the point to the function's end, as at each point at or above
+/// its size; 2, jump: a direct jump or branch leaves the function, or it is not known of a jump through a register that it
+/// goes where one of the first entries of a table leads, each of which leads into the function; and at each statement, with
+/// the state before it, 3, depth: a write of the frame, as the push of a call, begins below the probed part of the stack and
+/// the guard, or rsp is not known at a call; 4, address: an access is not all in the heap, the globals or what may be read;
+/// 5, read only: a write of the frame ends above it, or the image is written; 6, local: what is read of the frame was not
+/// written; 7, call: what a direct call enters, that a call through a register enters the function of an entry of a table
+/// with a known tag, or that rdi then holds the heap's base, is not known; 8, return: rsp or a register that the caller
+/// keeps is not known to be as it was. OutOfMemory where the allocator refuses a request.
 pub fn check(
     alloc: Global,
     loaded: &Module,
@@ -42,7 +42,6 @@ pub fn check(
 ) -> Result<Option<u8>, OutOfMemory>
     requires whole { IsWhole loaded.now }
     requires few { length site.now.tables.now ≤ 64 }
-    requires fits { Fits site.now.bounds.now state.now }
     ensures { (f : Function) → Contains loaded.now.functions f
         → IsSite (context_of loaded.now f) site.now
         → IfOk result (LowestFailing (context_of loaded.now f) at state.now) }
@@ -61,7 +60,6 @@ pub fn check_of_code(
 ) -> Result<Option<u8>, OutOfMemory>
     requires whole { IsWhole loaded.now }
     requires few { length site.now.tables.now ≤ 64 }
-    requires fits { Fits site.now.bounds.now state.now }
     requires code { code.now ≡ code_at site.now.image.now site.now.entry site.now.size }
     ensures { (f : Function) → Contains loaded.now.functions f
         → IsSite (context_of loaded.now f) site.now
@@ -81,7 +79,6 @@ fn failing(
 ) -> Result<Option<u8>, OutOfMemory>
     requires whole { IsWhole loaded.now }
     requires few { length site.now.tables.now ≤ 64 }
-    requires fits { Fits site.now.bounds.now state.now }
     requires code { code.now ≡ code_at site.now.image.now site.now.entry site.now.size }
     ensures { (f : Context) → IsFunctionOf loaded.now f → IsSite f site.now
         → IfOk result (LowestFailing f at state.now) }
@@ -106,7 +103,6 @@ fn failing_insn(
     requires whole { IsWhole loaded.now }
     requires listed { IsListed insn.now }
     requires few { length site.now.tables.now ≤ 64 }
-    requires fits { Fits site.now.bounds.now state.now }
     ensures { (f : Context) → IsFunctionOf loaded.now f → IsSite f site.now
         → IfOk result (IsLowestOf (InsnFails f next state.now insn.now)) }
 {
@@ -126,7 +122,6 @@ fn failing_stmts(
     requires whole { IsWhole loaded.now }
     requires few { length site.now.tables.now ≤ 64 }
     requires lifted { AllByRecursion IsLifted stmts.now }
-    requires fits { Fits site.now.bounds.now state }
     ensures { (f : Context) → IsFunctionOf loaded.now f → IsSite f site.now
         → IfOk result (IsLowestOf (StmtsFail f next (abstract_of state) stmts.now)) }
 {

@@ -3,7 +3,6 @@
 
 mod accesses;
 mod checks;
-mod covered;
 mod laws;
 mod lowest;
 mod readable;
@@ -11,10 +10,9 @@ mod statements;
 mod transfers;
 
 pub use checks::{check, check_of_code};
-pub use covered::is_covered;
 pub use laws::{
-    checks_are_conditions, least_table_is_safe, lower_states_pass, passing_code_is_covered,
-    stops_are_checks,
+    checks_are_conditions, least_table_is_safe, lower_states_pass, rounds_of_safe_functions_pass,
+    stable_rounds_are_safe, stops_are_checks,
 };
 
 #[cfg(test)]

@@ -5,10 +5,11 @@ use crate::check;
 use std::alloc::{AllocError, Global};
 use std::test::Fail;
 use vw_bits::List;
-use vw_domain::{entry_is_state, entry_state};
+use vw_domain::{State, entry_state};
 use vw_layout::Module;
 use vw_lift::lift;
 use vw_state::{Site, apply, bounds_of, code_of, instruction_at, lengths_of, tables_of};
+use vw_values::{Value, Via};
 
 /// A number of so many bytes at an offset: (offset, bytes, number).
 type Patch = (usize, usize, u64);
@@ -51,12 +52,13 @@ const FILE: [Patch; 29] = [
 /// lowest number there; none where no check fails from the start to the end.
 type Case = (&'static [u8], Option<(u32, u8)>);
 
-const CASES: [Case; 71] = [
+const CASES: [Case; 72] = [
     // code: NOP, a byte that begins no instruction, and an instruction that the end cuts off
     (&[0x90], None),
     (&[0x06], Some((0, 1))),
     (&[0x90, 0x8b], Some((1, 1))),
-    // jump: to the start, to the last byte, to the end, below the start; a branch; a jump through a register
+    // jump: to the start, to the last byte, to the end, below the start; a branch; a jump through a register that holds a
+    // number, and one whose memory operand, too, is not known
     (&[0xeb, 0xfe], None),
     (&[0xeb, 0xff], None),
     (&[0xeb, 0x00], Some((0, 2))),
@@ -64,6 +66,7 @@ const CASES: [Case; 71] = [
     (&[0x74, 0xfe, 0xc3], None),
     (&[0x75, 0x01, 0xc3], Some((0, 2))),
     (&[0xff, 0xe0], Some((0, 2))),
+    (&[0xff, 0x26], Some((0, 2))),
     // probed: a write at the guard's first byte, and below it
     (&[0x48, 0x89, 0x84, 0x24, 0x00, 0xe0, 0xff, 0xff], None),
     (
@@ -205,6 +208,250 @@ const CASES: [Case; 71] = [
     (&[0x53, 0x48, 0x89, 0xc3, 0x5b, 0xc3], None),
 ];
 
+/// The code of a function, then bytes behind it; how many of all are code; what rsi and rdi hold at the entry; and the
+/// first point at which a check fails, as above.
+type RegisterCase = (&'static [u8], u64, Value, Value, Option<(u32, u8)>);
+
+/// The function of the entry of table 0 with the tag 5, and what is known on the way to it.
+const FUNCTION: Value = Value::TableFn { table: 0, tag: 5 };
+
+const TYPED: Value = Value::EntryTyped { table: 0, tag: 5 };
+
+/// The destination of a jump through the first two entries of a table at address 378.
+const TWO: Value = Value::JumpDest { a: 378, k: 2 };
+
+/// A jump through rsi, and the word at the end of the image that leads to it from there.
+const LAST_WORD: [u8; 64] = [
+    0xff, 0xe6, 0x00, 0x00, 0x00, 0x00, 0x00, 0x00, 0x00, 0x00, 0x00, 0x00, 0x00, 0x00, 0x00, 0x00,
+    0x00, 0x00, 0x00, 0x00, 0x00, 0x00, 0x00, 0x00, 0x00, 0x00, 0x00, 0x00, 0x00, 0x00, 0x00, 0x00,
+    0x00, 0x00, 0x00, 0x00, 0x00, 0x00, 0x00, 0x00, 0x00, 0x00, 0x00, 0x00, 0x00, 0x00, 0x00, 0x00,
+    0x00, 0x00, 0x00, 0x00, 0x00, 0x00, 0x00, 0x00, 0x00, 0x00, 0x00, 0x00, 0xc4, 0xff, 0xff, 0xff,
+];
+
+const REGISTER_CASES: [RegisterCase; 42] = [
+    // a call through rsi: of the function of an entry with a tag, in the last table with the greatest tag
+    (&[0xff, 0xd6], 2, FUNCTION, Value::HeapBase, None),
+    (
+        &[0xff, 0xd6],
+        2,
+        Value::TableFn {
+            table: 63,
+            tag: 0xffff_fffe,
+        },
+        Value::HeapBase,
+        None,
+    ),
+    // the same without the heap's base in rdi
+    (&[0xff, 0xd6], 2, FUNCTION, Value::HeapAddr, Some((0, 7))),
+    (&[0xff, 0xd6], 2, FUNCTION, Value::Num, Some((0, 7))),
+    (&[0xff, 0xd6], 2, FUNCTION, Value::Any, Some((0, 7))),
+    (&[0xff, 0xd6], 2, FUNCTION, Value::Entry(7), Some((0, 7))),
+    // a call of anything else
+    (&[0xff, 0xd6], 2, TYPED, Value::HeapBase, Some((0, 7))),
+    (
+        &[0xff, 0xd6],
+        2,
+        Value::EntryPtr(0),
+        Value::HeapBase,
+        Some((0, 7)),
+    ),
+    (
+        &[0xff, 0xd6],
+        2,
+        Value::TagOf {
+            table: 0,
+            via: Via::At(1),
+        },
+        Value::HeapBase,
+        Some((0, 7)),
+    ),
+    (&[0xff, 0xd6], 2, Value::Any, Value::HeapBase, Some((0, 7))),
+    (&[0xff, 0xd6], 2, Value::Num, Value::HeapBase, Some((0, 7))),
+    (
+        &[0xff, 0xd6],
+        2,
+        Value::Const(376),
+        Value::HeapBase,
+        Some((0, 7)),
+    ),
+    (
+        &[0xff, 0xd6],
+        2,
+        Value::Image(376),
+        Value::HeapBase,
+        Some((0, 7)),
+    ),
+    (
+        &[0xff, 0xd6],
+        2,
+        Value::HeapBase,
+        Value::HeapBase,
+        Some((0, 7)),
+    ),
+    (&[0xff, 0xd6], 2, TWO, Value::HeapBase, Some((0, 7))),
+    // a call by the pointer of an entry: with a tag, without, without the heap's base; by its tag; and by eight bytes of
+    // which one is behind the entry, where check 4 goes before 7
+    (&[0xff, 0x56, 0x08], 3, TYPED, Value::HeapBase, None),
+    (
+        &[0xff, 0x56, 0x08],
+        3,
+        Value::EntryPtr(0),
+        Value::HeapBase,
+        Some((0, 7)),
+    ),
+    (&[0xff, 0x56, 0x08], 3, TYPED, Value::HeapAddr, Some((0, 7))),
+    (&[0xff, 0x16], 2, TYPED, Value::HeapBase, Some((0, 7))),
+    (&[0xff, 0x56, 0x09], 3, TYPED, Value::HeapBase, Some((0, 4))),
+    // a call through a register with rsp at no known offset, where check 3 goes before 7
+    (
+        &[0x48, 0x89, 0xc4, 0xff, 0xd6],
+        5,
+        FUNCTION,
+        Value::HeapBase,
+        Some((3, 3)),
+    ),
+    (
+        &[0x48, 0x89, 0xc4, 0xff, 0xd6],
+        5,
+        Value::Num,
+        Value::Num,
+        Some((3, 3)),
+    ),
+    // a jump through rsi by a table behind the code: to its start and its last byte; to its end, below its start, as the
+    // first and as the second entry; and where the second is not counted
+    (
+        &[0xff, 0xe6, 0xfe, 0xff, 0xff, 0xff, 0xff, 0xff, 0xff, 0xff],
+        2,
+        TWO,
+        Value::HeapBase,
+        None,
+    ),
+    (
+        &[0xff, 0xe6, 0xfe, 0xff, 0xff, 0xff, 0x00, 0x00, 0x00, 0x00],
+        2,
+        TWO,
+        Value::HeapBase,
+        Some((0, 2)),
+    ),
+    (
+        &[0xff, 0xe6, 0x00, 0x00, 0x00, 0x00, 0xfe, 0xff, 0xff, 0xff],
+        2,
+        TWO,
+        Value::HeapBase,
+        Some((0, 2)),
+    ),
+    (
+        &[0xff, 0xe6, 0xfe, 0xff, 0xff, 0xff, 0xfd, 0xff, 0xff, 0xff],
+        2,
+        TWO,
+        Value::HeapBase,
+        Some((0, 2)),
+    ),
+    (
+        &[0xff, 0xe6, 0xfe, 0xff, 0xff, 0xff, 0x00, 0x00, 0x00, 0x00],
+        2,
+        Value::JumpDest { a: 378, k: 1 },
+        Value::HeapBase,
+        None,
+    ),
+    // whatever rdi holds
+    (
+        &[0xff, 0xe6, 0xfe, 0xff, 0xff, 0xff, 0xff, 0xff, 0xff, 0xff],
+        2,
+        TWO,
+        Value::Num,
+        None,
+    ),
+    // a table whose first entry is the image's last word, and its second one is behind; a table far behind it
+    (
+        &LAST_WORD,
+        2,
+        Value::JumpDest { a: 436, k: 1 },
+        Value::HeapBase,
+        None,
+    ),
+    (
+        &LAST_WORD,
+        2,
+        Value::JumpDest { a: 436, k: 2 },
+        Value::HeapBase,
+        Some((0, 2)),
+    ),
+    (
+        &[0xff, 0xe6],
+        2,
+        Value::JumpDest {
+            a: 0xffff_ffff_ffff_ffff,
+            k: 1,
+        },
+        Value::HeapBase,
+        Some((0, 2)),
+    ),
+    // a jump to anything else
+    (&[0xff, 0xe6], 2, Value::Any, Value::HeapBase, Some((0, 2))),
+    (
+        &[0xff, 0xe6],
+        2,
+        Value::Image(376),
+        Value::HeapBase,
+        Some((0, 2)),
+    ),
+    (
+        &[0xff, 0xe6],
+        2,
+        Value::Const(376),
+        Value::HeapBase,
+        Some((0, 2)),
+    ),
+    (
+        &[0xff, 0xe6],
+        2,
+        Value::JumpOff { a: 378, k: 2 },
+        Value::HeapBase,
+        Some((0, 2)),
+    ),
+    (&[0xff, 0xe6], 2, FUNCTION, Value::HeapBase, Some((0, 2))),
+    // a jump by the pointer of an entry, and by eight bytes of which one is behind it, where check 2 goes before 4
+    (&[0xff, 0x66, 0x08], 3, TYPED, Value::HeapBase, Some((0, 2))),
+    (&[0xff, 0x66, 0x09], 3, TYPED, Value::HeapBase, Some((0, 2))),
+    // a switch of two cases, whose table stands behind the code: into the code, and to its end
+    (
+        &[
+            0x48, 0x8d, 0x0d, 0x0c, 0x00, 0x00, 0x00, 0x83, 0xe6, 0x01, 0x48, 0x63, 0x34, 0xb1,
+            0x48, 0x01, 0xce, 0xff, 0xe6, 0xed, 0xff, 0xff, 0xff, 0xff, 0xff, 0xff, 0xff,
+        ],
+        19,
+        Value::Num,
+        Value::HeapBase,
+        None,
+    ),
+    (
+        &[
+            0x48, 0x8d, 0x0d, 0x0c, 0x00, 0x00, 0x00, 0x83, 0xe6, 0x01, 0x48, 0x63, 0x34, 0xb1,
+            0x48, 0x01, 0xce, 0xff, 0xe6, 0xed, 0xff, 0xff, 0xff, 0x00, 0x00, 0x00, 0x00,
+        ],
+        19,
+        Value::Num,
+        Value::HeapBase,
+        Some((17, 2)),
+    ),
+    // a byte of the heap, at rsi and at 8 rsi, where the bound that rsi names is none of the function's
+    (
+        &[0x88, 0x04, 0x37],
+        3,
+        Value::Below(3),
+        Value::HeapBase,
+        None,
+    ),
+    (
+        &[0x88, 0x04, 0xf7],
+        3,
+        Value::Both(3),
+        Value::HeapBase,
+        Some((0, 4)),
+    ),
+];
+
 fn patch(bytes: &mut Vec<u8>, patches: &[Patch]) {
     for (at, size, number) in patches {
         let digits = number.to_le_bytes();
@@ -226,23 +473,39 @@ fn put(bytes: &mut Vec<u8>, code: &[u8]) {
     }
 }
 
-fn file(alloc: Global, code: &[u8]) -> Result<List<u8>, AllocError> {
+/// The file with these bytes from the function's entry on, of which the first `size` are its code.
+fn file(alloc: Global, code: &[u8], size: u64) -> Result<List<u8>, AllocError> {
     let mut bytes = vec![in alloc; 0u8; 440]?;
     patch(&mut bytes, &FILE);
-    patch(&mut bytes, &[(168, 8, code.len() as u64)]);
+    patch(&mut bytes, &[(168, 8, size)]);
     put(&mut bytes, code);
     Ok(List::from_vec(bytes))
 }
 
-/// The first point of a function at which a check fails, with its number, from the entry state on along its code.
+/// The state at an entry with these values in rsi and rdi. `None` also where they are no values.
+fn entry_with(alloc: Global, rsi: Value, rdi: Value) -> Option<State> {
+    let mut parts = entry_state(alloc).parts().ok()?;
+    let mut values = List::new(alloc);
+    for (register, value) in parts.values.as_slice().iter().enumerate() {
+        let held = match register {
+            6 => rsi,
+            7 => rdi,
+            _ => *value,
+        };
+        values.push(held).ok()?;
+    }
+    parts.values = values;
+    State::of(alloc, &parts).ok()
+}
+
+/// The first point of a function at which a check fails, with its number, from a state at its start on along its code.
 /// `None` where memory is refused.
-fn walk(alloc: Global, loaded: &Module, site: &Site) -> Option<Option<(u32, u8)>>
+fn walk(alloc: Global, loaded: &Module, site: &Site, start: State) -> Option<Option<(u32, u8)>>
     requires whole { IsWhole loaded.now }
     requires few { length site.now.tables.now ≤ 64 }
 {
-    entry_is_state();
     let code = site.code();
-    let mut state = entry_state(alloc);
+    let mut state = start;
     let mut at = 0;
     for _ in 0..16 {
         if site.size <= at {
@@ -259,7 +522,7 @@ fn walk(alloc: Global, loaded: &Module, site: &Site) -> Option<Option<(u32, u8)>
 }
 
 /// The same of the first function of a file. `None` also where there is none.
-fn walked(alloc: Global, bytes: List<u8>) -> Option<Option<(u32, u8)>> {
+fn walked(alloc: Global, bytes: List<u8>, start: State) -> Option<Option<(u32, u8)>> {
     let loaded = Module::read(alloc, bytes).ok()?;
     let tables = tables_of(alloc, &loaded).ok()?;
     let lengths = lengths_of(alloc, &loaded).ok()?;
@@ -277,14 +540,25 @@ fn walked(alloc: Global, bytes: List<u8>) -> Option<Option<(u32, u8)>> {
         size,
         bounds: &bounds,
     };
-    walk(alloc, &loaded, &site)
+    walk(alloc, &loaded, &site, start)
 }
 
 #[test]
 fn checks_along_code(rt: HostRuntime) -> Result<(), Fail> {
     for (code, failing) in CASES.iter() {
-        let bytes = file(rt.alloc(), *code)?;
-        let found = walked(rt.alloc(), bytes).ok_or("check")?;
+        let bytes = file(rt.alloc(), *code, code.len() as u64)?;
+        let found = walked(rt.alloc(), bytes, entry_state(rt.alloc())).ok_or("check")?;
+        assert_eq!(rt; found, *failing, "{code:?}");
+    }
+    Ok(())
+}
+
+#[test]
+fn checks_with_registers(rt: HostRuntime) -> Result<(), Fail> {
+    for (code, size, rsi, rdi, failing) in REGISTER_CASES.iter() {
+        let bytes = file(rt.alloc(), *code, *size)?;
+        let start = entry_with(rt.alloc(), *rsi, *rdi).ok_or("state")?;
+        let found = walked(rt.alloc(), bytes, start).ok_or("check")?;
         assert_eq!(rt; found, *failing, "{code:?}");
     }
     Ok(())

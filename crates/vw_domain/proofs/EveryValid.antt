@@ -1,6 +1,6 @@
 -- Every statement leaves a state a state.
 use Rattle.std.proofs.Common.{◌≡◌, ℕ, zero, suc, ◌+◌, ◌-◌, ◌%◌, ◌^◌, ◌<◌, ◌≤◌, inl, inr, ◌==◌, refl, subst, arith}
-use Rattle.std.specs.Prelude.{Option, Some, None, Bool, true, false, if◌then◌else◌, nat_le, ◌&&◌, ℤ, pos, negsuc, ◌+ℤ◌, ◌-ℤ◌}
+use Rattle.std.specs.Prelude.{List, Option, Some, None, Bool, true, false, if◌then◌else◌, nat_le, ◌&&◌, ℤ, pos, negsuc, ◌+ℤ◌, ◌-ℤ◌}
 use Rattle.std.proofs.lemmas.Bool.{eqb-true}
 use Rattle.std.proofs.lemmas.Nat.{mod_below}
 use Rattle.std.proofs.lemmas.Int.{ints}
@@ -22,7 +22,8 @@ use Rattle.vw_domain.proofs.WriteLaws.{some_is, none_is}
 use Rattle.vw_domain.proofs.Statements.{word_fits}
 use Rattle.vw_domain.proofs.MemoryOrder.{by_load, by_four, plain_load}
 use Rattle.vw_domain.proofs.Valid.{write_valid, set_flags_valid, lose_valid, store_valid, IsThere, IsRegister}
-use Rattle.vw_domain.proofs.ValueLaws.{ValueLaws, Good, NoSymbol, narrow32_good, narrowed_good, add_good, subtract_good, scaled_good, and_good, shifted_good, add_plain, join_plain, join_valid, narrow32_under}
+use Rattle.vw_domain.proofs.MoreBounds.{own_bounds, and_in, shl4_in, join_in}
+use Rattle.vw_domain.proofs.ValueLaws.{ValueLaws, NoSymbol, add_plain, join_plain, narrow32_under}
 use Rattle.vw_names.specs.declared.spot.Spot.{Spot as Place}
 use Rattle.vw_names.specs.declared.spot.Spot.TheVariants.{Reg as Register, Slot}
 use Rattle.vw_stack.specs.declared.offset.Offset.{Offset}
@@ -33,8 +34,9 @@ use Rattle.vw_values.specs.declared.value.Value.TheVariants.{Any, Num, Const, Be
 use Rattle.vw_values.specs.declared.value.Via.{Via}
 use Rattle.vw_values.specs.declared.value.Via.TheVariants.{At, Idx}
 use Rattle.vw_values.specs.Bounds.{first_from, IsMember}
-use Rattle.vw_values.specs.Values.{IsValue}
+use Rattle.vw_values.specs.Values.{IsValue, IsValid}
 use Rattle.vw_values.specs.Sums.{add}
+use Rattle.vw_values.specs.Scales.{scale}
 use Rattle.vw_values.specs.Narrowing.{narrow32, any_number}
 use Rattle.std.specs.Ordering.{int_eq}
 use Rattle.vw_domain.specs.declared.parts.Fact.TheVariants as fact
@@ -43,6 +45,7 @@ use Rattle.vw_domain.specs.Abstract.{Abstract}
 use Rattle.vw_domain.specs.Changes.{value_from, write}
 use Rattle.vw_domain.specs.Sites.{Site, IsSite, Word, Plain, Based, Other}
 use Rattle.vw_domain.specs.Operands.{index_of, operand_of, operand_offset, operand_place}
+use Rattle.vw_domain.specs.FormLaws.{HoldsBounds}
 use Rattle.vw_domain.specs.FormRanges.{IsForm, SlotFits}
 use Rattle.vw_domain.proofs.Orders.{Under, same}
 use Rattle.vw_domain.specs.Addresses.{Address, Frame, Heap, Globals, Image, Range, Entry, Unknown, value_of, signed, in_entry, known_or, by_value, by_base, in_heap, in_globals, in_range, in_table, by_image, by_pair, by_parts, address_of}
@@ -56,9 +59,22 @@ use Rattle.vw_domain.specs.State.{IsNarrow as IsNarrowSlot}
 use Rattle.vw_domain.specs.Statements.{apply, sum_value, moved, small, is_small, plus_disp, lea_by, lea_offset_by, lea_offset_of, chosen_value, chosen_offset, compared_with, flags_after}
 use Rattle.vw_domain.specs.Memory.{is_in_heap, wide_value, value_or, word_value, half_word_value, function_value, whole_value, half_value, offset_value, load_value, load_source, slot_size, stored_value, stored_source, store_at}
 
-module _ (site : Site) (laws : ValueLaws) (bounds : IsSite site) (st : Abstract) (valid : IsForm site.bounds st) where
+-- The bounds that the state names are among these, and those of the site too.
+module _ (site : Site) (laws : ValueLaws) (bounds : IsSite site) (members : List ℕ) (holds : HoldsBounds members site.bounds) (st : Abstract) (valid : IsForm members st) where
   abbrev G : Value → Type 0
-  G v = Good site laws bounds v
+  G v = IsValid members v
+
+  narrow32_good : (v : Value) → G v → G (narrow32 v)
+  narrow32_good v i = laws.lows_valid members v holds.are i
+
+  add_good : (x y : Value) → G x → G y → G (add x y site.tables)
+  add_good x y i j = laws.sums_valid members site.tables x y holds.are bounds.few i j
+
+  scaled_good : (s : ℕ) (v : Value) → G v → G (scale v s)
+  scaled_good s v i = laws.scales_valid members v s holds.are i
+
+  joined_good : (x y : Value) → G x → G y → G (join site.bounds x y)
+  joined_good = join_in site.bounds members bounds.bounds holds laws.joins_least
 
   var_good : (v : Var) → G (value_of st (index_of v))
   var_good v = (valid.values (Register (index_of v)), valid.among (Register (index_of v)))
@@ -67,15 +83,15 @@ module _ (site : Site) (laws : ValueLaws) (bounds : IsSite site) (st : Abstract)
   operand_good (operand.Var v) = var_good v
   operand_good (operand.Imm i) = (word_fits i, tt)
 
-  put : (dst : Var) (v : Value) (o : Offset) → G v → OffsetFits o v → IsForm site.bounds (write st (index_of dst) None v o)
-  put dst v o g n = write_valid site.bounds st (index_of dst) None v o valid tt g.0 g.1 n
+  put : (dst : Var) (v : Value) (o : Offset) → G v → OffsetFits o v → IsForm members (write st (index_of dst) None v o)
+  put dst v o g n = write_valid members st (index_of dst) None v o valid tt g.0 g.1 n
 
   const_good : (c : ℕ) → c < 2 ^ 64 → G (Const c)
   const_good c f = (f, tt)
 
   sum_good : (minus : Bool) (x y : Value) → G x → G y → G (sum_value site minus x y)
-  sum_good false x y gx gy = add_good site laws bounds x y gx gy
-  sum_good true x y gx gy = subtract_good site laws bounds x y gx
+  sum_good false x y gx gy = add_good x y gx gy
+  sum_good true x y gx gy = laws.differences_valid members site.tables x y holds.are bounds.few gx
 
   is_within : (c : ℤ) → is_small c ≡ true → IsWithin (2 ^ 31) c
   is_within c e = (grind (arith, ints), grind (arith, ints))
@@ -96,8 +112,8 @@ module _ (site : Site) (laws : ValueLaws) (bounds : IsSite site) (st : Abstract)
 
   plus_good : (v : Value) (d : ℤ) → G v → G (plus_disp site v d)
   plus_good v (pos zero) g = g
-  plus_good v (pos (suc n)) g = add_good site laws bounds v (Const (word_of (pos (suc n)))) g (const_good _ (word_fits (pos (suc n))))
-  plus_good v (negsuc n) g = add_good site laws bounds v (Const (word_of (negsuc n))) g (const_good _ (word_fits (negsuc n)))
+  plus_good v (pos (suc n)) g = add_good v (Const (word_of (pos (suc n)))) g (const_good _ (word_fits (pos (suc n))))
+  plus_good v (negsuc n) g = add_good v (Const (word_of (negsuc n))) g (const_good _ (word_fits (negsuc n)))
 
   reg_good : (r : Reg) → G (value_of st (number r))
   reg_good r = (valid.values (Register (number r)), valid.among (Register (number r)))
@@ -105,9 +121,9 @@ module _ (site : Site) (laws : ValueLaws) (bounds : IsSite site) (st : Abstract)
   lea_good : (b : Base) (index : Option (Reg × ℕ)) (d : ℤ) → G (lea_by site st d b index)
   lea_good base.Rip index d = (mod_below _ (2 ^ 64) (omega arith), tt)
   lea_good base.None None d = const_good _ (word_fits d)
-  lea_good base.None (Some (i, s)) d = plus_good _ d (scaled_good site laws bounds s _ (reg_good i))
+  lea_good base.None (Some (i, s)) d = plus_good _ d (scaled_good s _ (reg_good i))
   lea_good (base.Reg r) None d = plus_good _ d (reg_good r)
-  lea_good (base.Reg r) (Some (i, s)) d = plus_good _ d (add_good site laws bounds _ _ (reg_good r) (scaled_good site laws bounds s _ (reg_good i)))
+  lea_good (base.Reg r) (Some (i, s)) d = plus_good _ d (add_good _ _ (reg_good r) (scaled_good s _ (reg_good i)))
 
   plus_beside : (v : Value) (d : ℤ) → NoSymbol site laws bounds v → NoSymbol site laws bounds (plus_disp site v d)
   plus_beside v (pos zero) n = n
@@ -127,8 +143,8 @@ module _ (site : Site) (laws : ValueLaws) (bounds : IsSite site) (st : Abstract)
   chosen_good : (w : Width) (x y : Value) → G x → G y → G (chosen_value site w x y)
   chosen_good W8 x y gx gy = (tt, tt)
   chosen_good W16 x y gx gy = (tt, tt)
-  chosen_good W32 x y gx gy = join_valid site laws bounds _ _ (narrow32_good site laws bounds x gx) (narrow32_good site laws bounds y gy)
-  chosen_good W64 x y gx gy = join_valid site laws bounds x y gx gy
+  chosen_good W32 x y gx gy = joined_good _ _ (narrow32_good x gx) (narrow32_good y gy)
+  chosen_good W64 x y gx gy = joined_good x y gx gy
 
   chosen_beside : (w : Width) (a b : Offset) (x y : Value) → G x → G y → OffsetFits a x → OffsetFits b y → OffsetFits (chosen_offset w a b) (chosen_value site w x y)
   chosen_beside W8 a b x y gx gy n m = tt
@@ -139,7 +155,7 @@ module _ (site : Site) (laws : ValueLaws) (bounds : IsSite site) (st : Abstract)
   chosen_beside W64 (offset.Known c) (offset.Known d) x y gx gy n m = by_test (int_eq c d)
     where
       by_test : (t : Bool) → OffsetFits (if t then offset.Known c else offset.Unknown) (join site.bounds x y)
-      by_test true = (n.0, join_plain site laws bounds x y gx gy n.1 m.1)
+      by_test true = (n.0, join_plain site laws bounds x y gx.0 gy.0 n.1 m.1)
       by_test false = tt
 
   operand_beside : (b : Operand) → OffsetFits (operand_offset st b) (operand_of st b)
@@ -153,7 +169,7 @@ module _ (site : Site) (laws : ValueLaws) (bounds : IsSite site) (st : Abstract)
   TagFits (Some g) = IsTag g
 
   abbrev AddressFits : Address → Type 0
-  AddressFits (Range a s k) = (a < 2 ^ 64) × IsMember site.bounds k
+  AddressFits (Range a s k) = (a < 2 ^ 64) × IsMember members k
   AddressFits (Entry t tag d via) = IsTable t × TagFits tag × IsVia via
   AddressFits a = Unit {0}
 
@@ -189,7 +205,7 @@ module _ (site : Site) (laws : ValueLaws) (bounds : IsSite site) (st : Abstract)
 
   range_fits : (a s c : ℕ) (u : Option ℕ) (x : Address) → a < 2 ^ 64 → first_from c site.bounds ≡ u → in_range a s u ≡ Some x → AddressFits x
   range_fits a s c None x i e f = absurd (none_is f)
-  range_fits a s c (Some k) x i e f = subst AddressFits (some_is f) (i, first_member site.bounds c k e)
+  range_fits a s c (Some k) x i e f = subst AddressFits (some_is f) (i, holds.holds k (first_member site.bounds c k e))
 
   table_fits : (v : Value) (d : ℤ) (via : Via) (a : Address) → IsValue v → IsVia via → in_table v d via ≡ Some a → AddressFits a
   table_fits (EntryPtr t) d via a i r f = entry_in t None d via a i tt r f
@@ -199,11 +215,11 @@ module _ (site : Site) (laws : ValueLaws) (bounds : IsSite site) (st : Abstract)
   image_fits : (a r : ℕ) → a < 2 ^ 64 → r < 16 → (y : Value) (s : ℕ) (d : ℤ) (x : Address) → G y → by_image site a r (extent_of y) s d ≡ Some x → AddressFits x
   image_fits a r ia small (Const c) s d x g f = range_fits _ s (c + 1) (first_from (c + 1) site.bounds) x (mod_below _ (2 ^ 64) (omega arith)) refl f
   image_fits a r ia small (Below k) s d x g f = subst AddressFits (some_is f) (mod_below _ (2 ^ 64) (omega arith), g.1)
-  image_fits a r ia small (Both k) s d x g f = subst AddressFits (some_is f) (mod_below _ (2 ^ 64) (omega arith), bounds.bounds.powers 33 (omega arith))
+  image_fits a r ia small (Both k) s d x g f = subst AddressFits (some_is f) (mod_below _ (2 ^ 64) (omega arith), holds.are.powers 33 (omega arith))
   image_fits a r ia small (Index16 k m) s d x g f = by_scale (s == 1) f
     where
       by_scale : (b : Bool) → (if b then in_table (add (ImageAt a) (Index16 k m) site.tables) d (Idx r) else None) ≡ Some x → AddressFits x
-      by_scale true f = table_fits _ d (Idx r) x (add_good site laws bounds (ImageAt a) (Index16 k m) (ia, tt) g).0 small f
+      by_scale true f = table_fits _ d (Idx r) x (add_good (ImageAt a) (Index16 k m) (ia, tt) g).0 small f
       by_scale false f = absurd (none_is f)
   image_fits a r ia small y s d x g f = absurd (none_is f)
 
@@ -236,7 +252,7 @@ module _ (site : Site) (laws : ValueLaws) (bounds : IsSite site) (st : Abstract)
       by_scale false = known_fits _ _ first (λ z f. absurd (none_is f))
 
   power_good : (n : ℕ) → n ≤ 32 → G (Below (2 ^ n))
-  power_good n h = ((one-le-pow n 2 (omega arith), inl (pow-le-pow_right (omega arith) h)), bounds.bounds.powers n (omega arith))
+  power_good n h = ((one-le-pow n 2 (omega arith), inl (pow-le-pow_right (omega arith) h)), holds.are.powers n (omega arith))
 
   wide_good : (a : Address) → G (wide_value a)
   wide_good (Heap l h) = by_test (is_in_heap l h)
@@ -288,12 +304,12 @@ module _ (site : Site) (laws : ValueLaws) (bounds : IsSite site) (st : Abstract)
       most e = grind arith
 
       by_test : (b : Bool) → ((s == 4) && nat_le k 65536) ≡ b → G (value_or (if b then Some (JumpOff a k) else None) Any)
-      by_test true e = ((m.0, (bounds.bounds.positive k m.1, most e)), m.1)
+      by_test true e = ((m.0, (holds.are.positive k m.1, most e)), m.1)
       by_test false e = (tt, tt)
   offset_good a m = wide_good a
 
   slot_good : (c : ℤ) (b : Bool) → G (value_or (if b then Some (narrow32 (st.values (Slot c))) else None) (Below (2 ^ 32)))
-  slot_good c true = narrow32_good site laws bounds _ (valid.values (Slot c), valid.among (Slot c))
+  slot_good c true = narrow32_good _ (valid.values (Slot c), valid.among (Slot c))
   slot_good c false = power_good 32 (omega arith)
 
   load_good : (a : Address) → AddressFits a → (size : ℕ) (to : Width) (sg : Bool) → IsLoad size to sg → G (load_value site st a size to sg)
@@ -332,11 +348,11 @@ module _ (site : Site) (laws : ValueLaws) (bounds : IsSite site) (st : Abstract)
     whole_good a m,
   )
 
-  load_there : (a : Address) (size : ℕ) (to : Width) (sg : Bool) → IsLoad size to sg → IsThere site.bounds st (load_source st a size sg)
-  load_there (Frame c) size to sg i = by_load (λ size to sg. IsThere site.bounds st (load_source st (Frame c) size sg))
+  load_there : (a : Address) (size : ℕ) (to : Width) (sg : Bool) → IsLoad size to sg → IsThere members st (load_source st a size sg)
+  load_there (Frame c) size to sg i = by_load (λ size to sg. IsThere members st (load_source st (Frame c) size sg))
       (tt, tt, tt, tt, there 4 (st.sizes c == 4) refl (omega arith), tt, tt, tt, tt, tt, tt, tt, tt, there 4 (st.sizes c == 4) refl (omega arith), there 8 (st.sizes c == 8) refl (omega arith)) size to sg i
     where
-      there : (n : ℕ) (b : Bool) → (st.sizes c == n) ≡ b → 0 < n → IsThere site.bounds st (if b then Some (Slot c) else None)
+      there : (n : ℕ) (b : Bool) → (st.sizes c == n) ≡ b → 0 < n → IsThere members st (if b then Some (Slot c) else None)
       there n true e h = λ z. let k = eqb-true (st.sizes c) n e in omega arith
       there n false e h = tt
   load_there a size to sg i = tt
@@ -348,17 +364,17 @@ module _ (site : Site) (laws : ValueLaws) (bounds : IsSite site) (st : Abstract)
     where
       by_tests : (x y : Bool) → G (if x then v else (if y then narrow32 v else Any))
       by_tests true y = g
-      by_tests false true = narrow32_good site laws bounds v g
+      by_tests false true = narrow32_good v g
       by_tests false false = (tt, tt)
 
-  place_register : (b : Operand) → IsRegister site.bounds (operand_place b)
+  place_register : (b : Operand) → IsRegister members (operand_place b)
   place_register (operand.Var v) = tt
   place_register (operand.Imm i) = tt
 
-  source_register : (size : ℕ) (b : Operand) → IsRegister site.bounds (stored_source size b)
+  source_register : (size : ℕ) (b : Operand) → IsRegister members (stored_source size b)
   source_register size b = by_test (size == 8)
     where
-      by_test : (x : Bool) → IsRegister site.bounds (if x then operand_place b else None)
+      by_test : (x : Bool) → IsRegister members (if x then operand_place b else None)
       by_test true = place_register b
       by_test false = tt
 
@@ -378,20 +394,20 @@ module _ (site : Site) (laws : ValueLaws) (bounds : IsSite site) (st : Abstract)
   stored_none : (size : ℕ) (b : Operand) → IsWordSize size → slot_size size ≡ 0 → stored_source size b ≡ None
   stored_none size b = by_four size (λ size. slot_size size ≡ 0 → stored_source size b ≡ None) (λ z. refl) (λ z. refl) (λ z. refl) (λ z. absurd (omega arith))
 
-  store_at_valid : (a : Address) (n size : ℕ) (src : Option Place) (v : Value) → IsRegister site.bounds src → G v → SlotFits size (value_from st.values v src) → (size ≡ 0 → src ≡ None) → IsForm site.bounds (store_at st a n size src v)
-  store_at_valid (Frame c) n size src v i g s z = store_valid site.bounds st c n size src v valid i g.0 g.1 s z
-  store_at_valid Unknown n size src v i g s z = lose_valid site.bounds st valid
+  store_at_valid : (a : Address) (n size : ℕ) (src : Option Place) (v : Value) → IsRegister members src → G v → SlotFits size (value_from st.values v src) → (size ≡ 0 → src ≡ None) → IsForm members (store_at st a n size src v)
+  store_at_valid (Frame c) n size src v i g s z = store_valid members st c n size src v valid i g.0 g.1 s z
+  store_at_valid Unknown n size src v i g s z = lose_valid members st valid
   store_at_valid a n size src v i g s z = valid
 
-  compared_valid : (w : Width) → IsWide w → (a : ℕ) (y : Value) → IsValue y → IsForm site.bounds (compared_with st w a y)
+  compared_valid : (w : Width) → IsWide w → (a : ℕ) (y : Value) → IsValue y → IsForm members (compared_with st w a y)
   compared_valid W8 wide a (Const c) i = absurd wide
   compared_valid W16 wide a (Const c) i = absurd wide
-  compared_valid W32 wide a (Const c) i = set_flags_valid site.bounds st _ _ valid tt (inl refl, mod_below c (2 ^ 32) (omega arith))
-  compared_valid W64 wide a (Const c) i = set_flags_valid site.bounds st _ _ valid tt (inr refl, i)
-  compared_valid w wide a y i = set_flags_valid site.bounds st None fact.Unknown valid tt tt
+  compared_valid W32 wide a (Const c) i = set_flags_valid members st _ _ valid tt (inl refl, mod_below c (2 ^ 32) (omega arith))
+  compared_valid W64 wide a (Const c) i = set_flags_valid members st _ _ valid tt (inr refl, i)
+  compared_valid w wide a y i = set_flags_valid members st None fact.Unknown valid tt tt
 
-  flags_valid : (f : Option Compare) → IsComparison f → IsForm site.bounds (flags_after st f)
-  flags_valid None i = set_flags_valid site.bounds st None fact.Unknown valid tt tt
+  flags_valid : (f : Option Compare) → IsComparison f → IsForm members (flags_after st f)
+  flags_valid None i = set_flags_valid members st None fact.Unknown valid tt tt
   flags_valid (Some c) i = compared_valid c.w i (index_of c.a) (operand_of st c.b) (operand_good c.b).0
 
   opened_good : (w : Width) → G (any_number w)
@@ -400,10 +416,10 @@ module _ (site : Site) (laws : ValueLaws) (bounds : IsSite site) (st : Abstract)
   opened_good W32 = power_good 32 (omega arith)
   opened_good W64 = (tt, tt)
 
-  copy_valid : (dst src : Var) → IsForm site.bounds (apply site (stmt.Copy dst src) st)
-  copy_valid dst src = write_valid site.bounds st (index_of dst) _ _ _ valid (there (index_of src == index_of dst)) (var_good src).0 (var_good src).1 (number_beside (index_of src == index_of dst))
+  copy_valid : (dst src : Var) → IsForm members (apply site (stmt.Copy dst src) st)
+  copy_valid dst src = write_valid members st (index_of dst) _ _ _ valid (there (index_of src == index_of dst)) (var_good src).0 (var_good src).1 (number_beside (index_of src == index_of dst))
     where
-      there : (b : Bool) → IsThere site.bounds st (if b then None else Some (Register (index_of src)))
+      there : (b : Bool) → IsThere members st (if b then None else Some (Register (index_of src)))
       there true = tt
       there false = tt
 
@@ -411,22 +427,26 @@ module _ (site : Site) (laws : ValueLaws) (bounds : IsSite site) (st : Abstract)
       number_beside true = valid.offsets (index_of src)
       number_beside false = valid.offsets (index_of src)
 
-  pub stmt_valid : (x : Stmt) → IsLifted x → IsForm site.bounds (apply site x st)
-  stmt_valid (stmt.Set dst c) i = put dst (Const c) offset.Unknown (const_good c i) tt
-  stmt_valid (stmt.Copy dst src) i = copy_valid dst src
-  stmt_valid (stmt.Narrow dst src from to sg) i = put dst _ offset.Unknown (narrowed_good site laws bounds sg from to _ (var_good src)) tt
-  stmt_valid (stmt.Sum dst a b minus) i = put dst _ _ (sum_good minus _ _ (var_good a) (operand_good b)) (sum_beside minus _ _ (operand_of st b) (valid.offsets (index_of a)))
-  stmt_valid (stmt.Lea dst mem) i = put dst _ _ (lea_good mem.base mem.index mem.disp) (lea_beside mem.base mem.index mem.disp)
-  stmt_valid (stmt.And dst width a b) i = put dst _ offset.Unknown (and_good site laws bounds width _ _ (var_good a) (operand_good b)) tt
-  stmt_valid (stmt.Shl dst) i = put dst _ offset.Unknown (shifted_good site laws bounds _ (var_good dst)) tt
-  stmt_valid (stmt.Open dst width) i = put dst _ offset.Unknown (opened_good width) tt
-  stmt_valid (stmt.Choose dst width a b) i = put dst _ _ (chosen_good width _ _ (var_good a) (operand_good b)) (chosen_beside width _ _ _ _ (var_good a) (operand_good b) (valid.offsets (index_of a)) (operand_beside b))
-  stmt_valid (stmt.Load dst size to sg mem) i =
+  pub stmt_valid_in : (x : Stmt) → IsLifted x → IsForm members (apply site x st)
+  stmt_valid_in (stmt.Set dst c) i = put dst (Const c) offset.Unknown (const_good c i) tt
+  stmt_valid_in (stmt.Copy dst src) i = copy_valid dst src
+  stmt_valid_in (stmt.Narrow dst src from to sg) i = put dst _ offset.Unknown (laws.narrows_valid members _ from to sg holds.are (var_good src)) tt
+  stmt_valid_in (stmt.Sum dst a b minus) i = put dst _ _ (sum_good minus _ _ (var_good a) (operand_good b)) (sum_beside minus _ _ (operand_of st b) (valid.offsets (index_of a)))
+  stmt_valid_in (stmt.Lea dst mem) i = put dst _ _ (lea_good mem.base mem.index mem.disp) (lea_beside mem.base mem.index mem.disp)
+  stmt_valid_in (stmt.And dst width a b) i = put dst _ offset.Unknown (and_in site.bounds members bounds.bounds holds laws.lows_valid width _ _ (var_good a) (operand_good b)) tt
+  stmt_valid_in (stmt.Shl dst) i = put dst _ offset.Unknown (shl4_in site.bounds members bounds.bounds holds _ (var_good dst)) tt
+  stmt_valid_in (stmt.Open dst width) i = put dst _ offset.Unknown (opened_good width) tt
+  stmt_valid_in (stmt.Choose dst width a b) i = put dst _ _ (chosen_good width _ _ (var_good a) (operand_good b)) (chosen_beside width _ _ _ _ (var_good a) (operand_good b) (valid.offsets (index_of a)) (operand_beside b))
+  stmt_valid_in (stmt.Load dst size to sg mem) i =
       let g = load_good (address_of site st mem) (address_fits mem.base mem.index mem.disp) size to sg i.0 in
-      write_valid site.bounds st (index_of dst) _ _ offset.Unknown valid (load_there (address_of site st mem) size to sg i.0) g.0 g.1 tt
-  stmt_valid (stmt.Store mem size src) i =
+      write_valid members st (index_of dst) _ _ offset.Unknown valid (load_there (address_of site st mem) size to sg i.0) g.0 g.1 tt
+  stmt_valid_in (stmt.Store mem size src) i =
       store_at_valid (address_of site st mem) size (slot_size size) (stored_source size src) _ (source_register size src) (stored_good size _ (operand_good src)) (stored_slot size src i.0) (stored_none size src i.0)
-  stmt_valid (stmt.Touch mem size true) i = store_at_valid (address_of site st mem) size 0 None Any tt (tt, tt) (inl (refl, refl)) (λ z. refl)
-  stmt_valid (stmt.Touch mem size false) i = valid
-  stmt_valid (stmt.Flags f) i = flags_valid f i
-  stmt_valid (stmt.Flow f) i = valid
+  stmt_valid_in (stmt.Touch mem size true) i = store_at_valid (address_of site st mem) size 0 None Any tt (tt, tt) (inl (refl, refl)) (λ z. refl)
+  stmt_valid_in (stmt.Touch mem size false) i = valid
+  stmt_valid_in (stmt.Flags f) i = flags_valid f i
+  stmt_valid_in (stmt.Flow f) i = valid
+
+-- and so where it names the bounds of the site alone
+pub stmt_valid : (site : Site) (laws : ValueLaws) (is : IsSite site) (st : Abstract) → IsForm site.bounds st → (x : Stmt) → IsLifted x → IsForm site.bounds (apply site x st)
+stmt_valid site laws is st valid x lifted = stmt_valid_in site laws is site.bounds (own_bounds site.bounds is.bounds) st valid x lifted

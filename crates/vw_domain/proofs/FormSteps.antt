@@ -50,8 +50,9 @@ use Rattle.vw_domain.specs.Stands.{width_of}
 use Rattle.vw_domain.proofs.ValueLaws.{ValueLaws}
 use Rattle.vw_domain.proofs.Branches.{RuleFits}
 use Rattle.vw_domain.proofs.Edges.{wide_of, fits_of, fact_fits}
-use Rattle.vw_domain.proofs.EveryValid.{stmt_valid}
+use Rattle.vw_domain.proofs.EveryValid.{stmt_valid_in}
 use Rattle.vw_domain.proofs.Lists.{finish_valid}
+use Rattle.vw_domain.proofs.MoreBounds.{own_bounds}
 use Rattle.vw_domain.proofs.RefineLemmas.{Refining, refining, refined_keeps}
 use Rattle.vw_domain.proofs.StateForms.{IsInside, write_form, set_flags_form, lose_form, store_form, call_form, deeper_low}
 use Rattle.vw_domain.proofs.Valid.{call_valid}
@@ -157,12 +158,12 @@ low_index : (v : Var) → index_of v < 17
 low_index (var.Reg r) = let less = below_16 r in omega arith
 low_index var.Tmp = omega arith
 
-module _ (site : Site) (laws : ValueLaws) (is : IsSite site) (st : Abstract) (valid : IsStateForm site.bounds st) where
+module _ (site : Site) (members : List ℕ) (st : Abstract) (valid : IsStateForm members st) where
   abbrev Kept : Abstract → Type 0
-  Kept after = IsForm site.bounds after → IsStateForm site.bounds after
+  Kept after = IsForm members after → IsStateForm members after
 
   abbrev Inside : Option Place → Type 0
-  Inside p = IsInside site.bounds st valid p
+  Inside p = IsInside members st valid p
 
   load_inside : (a : Address) (size : ℕ) (signed : Bool) → Inside (load_source st a size signed)
   load_inside (Frame c) size signed = by_test _
@@ -188,20 +189,20 @@ module _ (site : Site) (laws : ValueLaws) (is : IsSite site) (st : Abstract) (va
   copy_inside src false = low_index src
 
   kept_store : (a : Address) (n size : ℕ) (src : Option Place) (v : Value) → IsNear a → Inside src → Kept (store_at st a n size src v)
-  kept_store (Frame c) n size src v near inside = store_form site.bounds st valid c n size src v near inside
-  kept_store Unknown n size src v near inside = lose_form site.bounds st valid
+  kept_store (Frame c) n size src v near inside = store_form members st valid c n size src v near inside
+  kept_store Unknown n size src v near inside = lose_form members st valid
   kept_store a n size src v near inside = λ form. valid
 
   kept_compared : (w : Width) (a : ℕ) (y : Value) → a < 17 → Kept (compared_with st w a y)
-  kept_compared w a (Const c) low = set_flags_form site.bounds st valid (Some (Register a)) _ low
-  kept_compared w a y low = set_flags_form site.bounds st valid None fact.Unknown tt
+  kept_compared w a (Const c) low = set_flags_form members st valid (Some (Register a)) _ low
+  kept_compared w a y low = set_flags_form members st valid None fact.Unknown tt
 
   kept_flags : (f : Option Compare) → Kept (flags_after st f)
-  kept_flags None = set_flags_form site.bounds st valid None fact.Unknown tt
+  kept_flags None = set_flags_form members st valid None fact.Unknown tt
   kept_flags (Some c) = kept_compared c.w (index_of c.a) (operand_of st c.b) (low_index c.a)
 
   kept_write : (dst : Var) (src : Option Place) (v : Value) (o : Offset) → Inside src → Kept (write st (index_of dst) src v o)
-  kept_write dst src v o inside = write_form site.bounds st valid (index_of dst) src v o (low_index dst) inside
+  kept_write dst src v o inside = write_form members st valid (index_of dst) src v o (low_index dst) inside
 
   kept : (x : Stmt) → HasDisplacement x → Kept (apply site x st)
   kept (stmt.Set dst c) d = kept_write dst None _ _ tt
@@ -214,18 +215,18 @@ module _ (site : Site) (laws : ValueLaws) (is : IsSite site) (st : Abstract) (va
   kept (stmt.Open dst w) d = kept_write dst None _ _ tt
   kept (stmt.Choose dst w a b) d = kept_write dst None _ _ tt
   kept (stmt.Load dst size to sg mem) d = kept_write dst _ _ _ (load_inside (address_of site st mem) size sg)
-  kept (stmt.Store mem size src) d = kept_store (address_of site st mem) size _ _ _ (near_address site site.bounds st valid.form mem.base mem.index mem.disp d) (source_inside size src)
-  kept (stmt.Touch mem size true) d = kept_store (address_of site st mem) size _ _ _ (near_address site site.bounds st valid.form mem.base mem.index mem.disp d) tt
+  kept (stmt.Store mem size src) d = kept_store (address_of site st mem) size _ _ _ (near_address site members st valid.form mem.base mem.index mem.disp d) (source_inside size src)
+  kept (stmt.Touch mem size true) d = kept_store (address_of site st mem) size _ _ _ (near_address site members st valid.form mem.base mem.index mem.disp d) tt
   kept (stmt.Touch mem size false) d = λ form. valid
   kept (stmt.Flags f) d = kept_flags f
   kept (stmt.Flow f) d = λ form. valid
 
 pub statements_keep : ValueLaws → FormLaws.StatementsKeepStateForms
-statements_keep laws site st x is valid lifted d = kept site laws is st valid x d (stmt_valid site laws is st valid.form x lifted)
+statements_keep laws site members st x is holds valid lifted d = kept site members st valid x d (stmt_valid_in site laws is members holds st valid.form x lifted)
 
 pub lists_keep : ValueLaws → FormLaws.ListsKeepStateForms
 lists_keep laws site st [] is valid lifted d = valid
-lists_keep laws site st (x ∷ rest) is valid lifted d = lists_keep laws site (apply site x st) rest is (statements_keep laws site st x is valid lifted.0 d.0) lifted.1 d.1
+lists_keep laws site st (x ∷ rest) is valid lifted d = lists_keep laws site (apply site x st) rest is (statements_keep laws site site.bounds st x is (own_bounds site.bounds is.bounds) valid lifted.0 d.0) lifted.1 d.1
 
 pub ends_keep : ValueLaws → FormLaws.EndsKeepStateForms
 ends_keep laws site st is valid = write_form site.bounds st valid 16 None Any offset.Unknown (omega arith) tt (finish_valid site laws is st valid.form)
@@ -359,10 +360,10 @@ module _ (bounds : List ℕ) (st : Abstract) (valid : IsStateForm bounds st) whe
 
 refiner_keeps : ValueLaws → (site : Site) → IsSite site → (w : Width) (rule : Rule) → IsWide w → RuleFits rule → Refining site.bounds (refiner site w rule)
 refiner_keeps laws site is w (IsLess k) wide fits =
-    let keeps = refining laws.below_valid laws.below_rises laws.equal_valid laws.equal_rises site.bounds is.bounds (comparison.Below w k) wide in
+    let keeps = refining laws.below_rises laws.equal_rises site.bounds is.bounds site.bounds (own_bounds site.bounds is.bounds) (comparison.Below w k) wide in
     record { any = keeps.any; valid = keeps.valid; numbers = keeps.numbers; narrow = keeps.narrow }
 refiner_keeps laws site is w (Is k) wide fits =
-    let keeps = refining laws.below_valid laws.below_rises laws.equal_valid laws.equal_rises site.bounds is.bounds (comparison.Equal w k) (wide, fits) in
+    let keeps = refining laws.below_rises laws.equal_rises site.bounds is.bounds site.bounds (own_bounds site.bounds is.bounds) (comparison.Equal w k) (wide, fits) in
     record { any = keeps.any; valid = keeps.valid; numbers = keeps.numbers; narrow = keeps.narrow }
 
 tags_small : (st : Abstract) (rule : Rule) (places : List Place) (p : Place) (t : ℕ) → tags_by st rule places p t ≡ true → IsTag (rule_number rule)

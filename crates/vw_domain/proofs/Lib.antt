@@ -38,6 +38,7 @@ pub mod Standing
 pub mod Statements
 pub mod Tags
 pub mod Ups
+pub mod MoreBounds
 pub mod Valid
 pub mod ValueLaws
 pub mod WriteLaws

@@ -10,13 +10,15 @@ use Rattle.vw_values.specs.declared.value.Value.TheVariants.{Any, Num, Const, Be
 use Rattle.vw_values.specs.Bounds.{IsBounds, first_from}
 use Rattle.vw_values.specs.Values.{IsValue, IsValid, IsNumber, value_below}
 use Rattle.vw_values.specs.Refinements.{below, cut, const_where}
-use Rattle.vw_values.specs.Laws.{IsValidWhere, IsLower, BelowIsValid, BelowRises, EqualIsValid, EqualRises}
+use Rattle.vw_values.specs.Laws.{IsValidWhere, IsLower, BelowRises, EqualRises}
 use Rattle.vw_values.specs.OrderLaws as laws
 use Rattle.vw_domain.specs.declared.refines.Comparison.{Comparison}
 use Rattle.vw_domain.specs.declared.refines.Comparison.TheVariants as comparison
 use Rattle.vw_domain.specs.State.{IsNarrow}
 use Rattle.vw_domain.specs.Changes.{or_else, refined_by}
+use Rattle.vw_domain.specs.FormLaws.{HoldsBounds}
 use Rattle.vw_domain.specs.Refines.{refinement, IsComparison}
+use Rattle.vw_domain.proofs.MoreBounds.{refined_below_in, refined_equal_in}
 use Rattle.vw_domain.proofs.StateJoins.{narrow_to, narrow_from}
 
 pub record Refining (bounds : List ℕ) (f : Value → Option Value) : Type 0 where
@@ -103,28 +105,29 @@ refine_any (comparison.Equal W16 k) b = refl
 refine_any (comparison.Equal W32 k) b = refl
 refine_any (comparison.Equal W64 k) b = refl
 
-module _ (below_valid : BelowIsValid) (below_rises : BelowRises) (equal_valid : EqualIsValid) (equal_rises : EqualRises) (b : List ℕ) (are : IsBounds b) where
-  refine_valid : (c : Comparison) (v : Value) → IsComparison c → IsValid b v → IsValidWhere b (refinement c b v)
-  refine_valid (comparison.Below w k) v is valid = below_valid b v w k are is valid
-  refine_valid (comparison.Equal w k) v is valid = equal_valid b v w k are is.0 is.1 valid
+-- Values whose bounds are among these, and those of the site are too.
+module _ (below_rises : BelowRises) (equal_rises : EqualRises) (b : List ℕ) (are : IsBounds b) (members : List ℕ) (holds : HoldsBounds members b) where
+  refine_valid : (c : Comparison) (v : Value) → IsComparison c → IsValid members v → IsValidWhere members (refinement c b v)
+  refine_valid (comparison.Below w k) v is valid = refined_below_in b members are holds v w k valid
+  refine_valid (comparison.Equal w k) v is valid = refined_equal_in b members are holds v w k is.0 is.1 valid
 
   refine_rises : (c : Comparison) (v y : Value) → IsComparison c → IsValue v → IsValue y → value_below v y → IsLower (refinement c b v) (refinement c b y)
   refine_rises (comparison.Below w k) v y is of_v of_y under = below_rises b v y w k are is of_v of_y under
   refine_rises (comparison.Equal w k) v y is of_v of_y under = equal_rises b v y w k are is.0 is.1 of_v of_y under
 
   -- what is below the top stays below it
-  under_top : (c : Comparison) (top v u : Value) → IsComparison c → IsValid b top → ((w : Value) → refinement c b top ≡ Some w → value_below w top) → IsValid b v → value_below v top → refinement c b v ≡ Some u → value_below u top
+  under_top : (c : Comparison) (top v u : Value) → IsComparison c → IsValid members top → ((w : Value) → refinement c b top ≡ Some w → value_below w top) → IsValid members v → value_below v top → refinement c b v ≡ Some u → value_below u top
   under_top c top v u is valid_top top_stays valid under found =
       let lower = lower_some (refinement c b v) (refinement c b top) u found (refine_rises c v top is valid.0 valid_top.0 under) in
-      laws.transitive b u lower.0 top (valid_some b (refinement c b v) u found (refine_valid c v is valid)) (valid_some b (refinement c b top) lower.0 lower.1 (refine_valid c top is valid_top)) valid_top lower.2 (top_stays lower.0 lower.1)
+      laws.transitive members u lower.0 top (valid_some members (refinement c b v) u found (refine_valid c v is valid)) (valid_some members (refinement c b top) lower.0 lower.1 (refine_valid c top is valid_top)) valid_top lower.2 (top_stays lower.0 lower.1)
 
-  pub refining : (c : Comparison) → IsComparison c → Refining b (refinement c b)
+  pub refining : (c : Comparison) → IsComparison c → Refining members (refinement c b)
   refining c is = record {
     any = refine_any c b;
-    valid = λ v u valid found. valid_some b (refinement c b v) u found (refine_valid c v is valid);
+    valid = λ v u valid found. valid_some members (refinement c b v) u found (refine_valid c v is valid);
     numbers = λ v u valid number found. under_top c Num v u is (tt, tt) (λ w. top_num c b w is) valid number found;
     narrow = λ v u valid narrow found.
-        narrow_from u (under_top c (Below (2 ^ 32)) v u is ((omega arith, inl (omega arith)), are.powers 32 (omega arith)) (λ w. top_four c b w is) valid (narrow_to v narrow) found);
+        narrow_from u (under_top c (Below (2 ^ 32)) v u is ((omega arith, inl (omega arith)), holds.are.powers 32 (omega arith)) (λ w. top_four c b w is) valid (narrow_to v narrow) found);
   }
 
 -- ---- a refined value

@@ -437,17 +437,14 @@ module _ (site : Site) (laws : ValueLaws) (bounds : IsSite site) where
   shifted_below v v' i i' h = under_of _ _ (laws.shifts_rise site.bounds v v' bounds.bounds i i' (below_of v v' h))
 
   -- the join is the least valid value above both
-  joined : (x y : Value) → IsValid site.bounds x → IsValid site.bounds y → IsJoin value_below (IsValid site.bounds) x y (join site.bounds x y)
-  joined x y i j = laws.joins_least site.bounds x y bounds.bounds i.0 j.0
+  joined : (x y : Value) → IsValue x → IsValue y → IsJoin value_below (IsValid site.bounds) x y (join site.bounds x y)
+  joined x y i j = laws.joins_least site.bounds x y bounds.bounds i j
 
   pub join_left : (x y : Value) → IsValid site.bounds x → IsValid site.bounds y → Under x (join site.bounds x y)
-  join_left x y i j = under_of _ _ (joined x y i j).above_left
+  join_left x y i j = under_of _ _ (joined x y i.0 j.0).above_left
 
   pub join_right : (x y : Value) → IsValid site.bounds x → IsValid site.bounds y → Under y (join site.bounds x y)
-  join_right x y i j = under_of _ _ (joined x y i j).above_right
-
-  pub join_valid : (x y : Value) → IsValid site.bounds x → IsValid site.bounds y → IsValid site.bounds (join site.bounds x y)
-  join_valid x y i j = (joined x y i j).valid
+  join_right x y i j = under_of _ _ (joined x y i.0 j.0).above_right
 
   pub join_below : (x x' y y' : Value) → IsValid site.bounds x → IsValid site.bounds y → IsValid site.bounds x' → IsValid site.bounds y' → Under x x' → Under y y' → Under (join site.bounds x y) (join site.bounds x' y')
   join_below x x' y y' i j i' j' h k =
@@ -524,23 +521,14 @@ module _ (site : Site) (laws : ValueLaws) (bounds : IsSite site) where
   pub narrow32_good : (v : Value) → Good v → Good (narrow32 v)
   narrow32_good v i = laws.lows_valid site.bounds v bounds.bounds i
 
-  pub narrowed_good : (signed : Bool) (from to : Width) (v : Value) → Good v → Good (narrow v from to signed)
-  narrowed_good signed from to v i = laws.narrows_valid site.bounds v from to signed bounds.bounds i
-
   pub add_good : (x y : Value) → Good x → Good y → Good (add x y site.tables)
   add_good x y i j = laws.sums_valid site.bounds site.tables x y bounds.bounds bounds.few i j
-
-  pub subtract_good : (x y : Value) → Good x → Good (subtract x y site.tables)
-  subtract_good x y i = laws.differences_valid site.bounds site.tables x y bounds.bounds bounds.few i
 
   pub scaled_good : (s : ℕ) (v : Value) → Good v → Good (scale v s)
   scaled_good s v i = laws.scales_valid site.bounds v s bounds.bounds i
 
-  pub and_good : (w : Width) (x y : Value) → Good x → Good y → Good (and x y w site.bounds)
-  and_good w x y i j = laws.ands_valid site.bounds x y w bounds.bounds i j
-
-  pub shifted_good : (v : Value) → Good v → Good (shl4 v site.bounds)
-  shifted_good v i = laws.shifts_valid site.bounds v bounds.bounds i
+  pub join_valid : (x y : Value) → Good x → Good y → Good (join site.bounds x y)
+  join_valid x y i j = (joined x y i.0 j.0).valid
 
   abbrev pub NoSymbol : Value → Type 0
   NoSymbol v = (v ≡ Any) ⊎ IsNumber v
@@ -566,7 +554,7 @@ module _ (site : Site) (laws : ValueLaws) (bounds : IsSite site) where
   any_is v same = refl
   any_is v to_any = refl
 
-  pub join_plain : (x y : Value) → Good x → Good y → NoSymbol x → NoSymbol y → NoSymbol (join site.bounds x y)
-  join_plain x y i j (inl e) p = inl (any_is _ (subst (λ z. Under z (join site.bounds x y)) e (join_left x y i j)))
-  join_plain x y i j (inr n) (inl e) = inl (any_is _ (subst (λ z. Under z (join site.bounds x y)) e (join_right x y i j)))
-  join_plain x y i j (inr n) (inr m) = inr (laws.numbers_join site.bounds x y bounds.bounds i.0 j.0 n m)
+  pub join_plain : (x y : Value) → IsValue x → IsValue y → NoSymbol x → NoSymbol y → NoSymbol (join site.bounds x y)
+  join_plain x y i j (inl e) p = inl (any_is _ (subst (λ z. Under z (join site.bounds x y)) e (under_of _ _ (joined x y i j).above_left)))
+  join_plain x y i j (inr n) (inl e) = inl (any_is _ (subst (λ z. Under z (join site.bounds x y)) e (under_of _ _ (joined x y i j).above_right)))
+  join_plain x y i j (inr n) (inr m) = inr (laws.numbers_join site.bounds x y bounds.bounds i j n m)

@@ -7,8 +7,9 @@ use Rattle.vw_names.specs.declared.spot.Spot.{Spot}
 use Rattle.vw_stmt.specs.declared.statement.Stmt.{Stmt}
 use Rattle.vw_stmt.specs.declared.statement.Stmt.TheVariants as stmt
 use Rattle.vw_stmt.specs.Lifted.{IsLifted}
+use Rattle.vw_values.specs.Bounds.{IsMember, IsBounds}
 use Rattle.vw_domain.specs.declared.parts.Parts.{Parts}
-use Rattle.vw_domain.specs.State.{IsValidState, entry_state}
+use Rattle.vw_domain.specs.State.{IsState, Fits, IsValidState, entry_state}
 use Rattle.vw_domain.specs.Abstract.{Abstract, abstract_of}
 use Rattle.vw_domain.specs.Changes.{call}
 use Rattle.vw_domain.specs.Sites.{Site, IsSite}
@@ -20,6 +21,17 @@ use Rattle.vw_domain.specs.StateOf.{state_of}
 
 abbrev pub StatesHaveForms : Type 0
 StatesHaveForms = (bounds : List ℕ) (s : Parts) → IsValidState bounds s → IsStateForm bounds (abstract_of s)
+
+-- these are bounds, and those are among them
+pub record HoldsBounds (members bounds : List ℕ) : Type 0 where
+  pub are : IsBounds members
+  pub holds : (k : ℕ) → IsMember bounds k → IsMember members k
+
+-- there are bounds that hold each list of bounds, and those that a state names
+abbrev pub StatesNameBounds : Type 0
+StatesNameBounds =
+    (s : Parts) → IsState s
+    → (members : List ℕ) × ((bounds : List ℕ) → IsBounds bounds → HoldsBounds members bounds) × Fits members s
 
 -- the parts that are made of each form are a state, and the form is that of the state
 abbrev pub StateOfForms : Type 0
@@ -57,10 +69,12 @@ HasDisplacement (stmt.Choose dst w a b) = Unit {0}
 HasDisplacement (stmt.Flags fact) = Unit {0}
 HasDisplacement (stmt.Flow f) = Unit {0}
 
+-- the bounds that the state names may be others than those of the site, but with those
 abbrev pub StatementsKeepStateForms : Type 0
 StatementsKeepStateForms =
-    (site : Site) (st : Abstract) (x : Stmt)
-    → IsSite site → IsStateForm site.bounds st → IsLifted x → HasDisplacement x → IsStateForm site.bounds (apply site x st)
+    (site : Site) (members : List ℕ) (st : Abstract) (x : Stmt)
+    → IsSite site → HoldsBounds members site.bounds → IsStateForm members st → IsLifted x → HasDisplacement x
+    → IsStateForm members (apply site x st)
 
 abbrev pub ListsKeepStateForms : Type 0
 ListsKeepStateForms =

@@ -18,7 +18,6 @@ impl State {
     /// number of such a value passes, or an address or index has another tag. Takes no memory.
     pub fn take_edge(&mut self, comparison: Comparison, bounds: &Bounds) -> bool
         requires comparison { IsComparison comparison }
-        requires fits { Fits bounds.now self.old }
         ensures edge { (site : Site) (places : List Spot)
             → site.bounds ≡ bounds.now → HoldsPlaces places self.old
             → (IsTrue result
@@ -27,7 +26,7 @@ impl State {
             → site.bounds ≡ bounds.now → HoldsPlaces places self.old
             → abstract_of self.new
             ≡ edge_state site places (abstract_of self.old) (Some (rule_told comparison)) }
-        ensures fits { Fits bounds.now self.new }
+        ensures fits { Fits bounds.now self.old → Fits bounds.now self.new }
     {
         bounds.are_bounds();
         below_is_sound();

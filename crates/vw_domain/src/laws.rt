@@ -1,7 +1,7 @@
 //! What holds of all states, each the contract of a function that does nothing.
 
 ghost use Rattle.vw_domain.specs.Forms.{FormsTellStates, OrderIsThatOfForms};
-ghost use Rattle.vw_domain.specs.FormLaws.{StatesHaveForms, FormsAreOfStates, StateOfForms, EntryIsState};
+ghost use Rattle.vw_domain.specs.FormLaws.{StatesHaveForms, StatesNameBounds, FormsAreOfStates, StateOfForms, EntryIsState};
 ghost use Rattle.vw_domain.specs.Ranks.{StateRanksAreBounded, StateRanksAreSmall};
 ghost use Rattle.vw_domain.specs.Stands.{LowerSaysMore, LowerStandsForLess};
 
@@ -22,9 +22,11 @@ pub fn forms_tell_states()
 {}
 
 /// The abstract form of each state keeps to the ranges of forms, and each form that keeps to them is that of a state:
-/// of the one that is built of it.
+/// of the one that is built of it. The bounds that a state names are
+/// among some that hold each list of bounds.
 pub fn states_have_forms()
     ensures forms { StatesHaveForms }
+    ensures bounds { StatesNameBounds }
     ensures states { FormsAreOfStates }
     ensures built { StateOfForms }
 {}

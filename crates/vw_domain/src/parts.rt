@@ -23,7 +23,7 @@ pub enum Fact {
 }
 
 /// The parts of a state, by which contracts see it.
-#[derive(Debug, Drop)]
+#[derive(Drop)]
 pub struct Parts {
     /// The registers, by their numbers. Number 16 holds a number within one instruction.
     pub registers: [Register; 17],

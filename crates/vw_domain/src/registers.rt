@@ -10,7 +10,7 @@ use vw_values::{Bounds, Value};
 
 /// What is known of a register: how far it is from the value that rsp had at the function's entry, and its
 /// value.
-#[derive(Clone, Copy, Debug, PartialEq, Eq)]
+#[derive(Clone, Copy, PartialEq, Eq)]
 pub struct Register {
     /// The distance, in bytes.
     pub offset: Offset,

@@ -16,7 +16,7 @@ use vw_stack::Offset;
 use vw_values::Value;
 
 /// A slot of the frame.
-#[derive(Clone, Copy, Debug, PartialEq, Eq)]
+#[derive(Clone, Copy, PartialEq, Eq)]
 pub struct Slot {
     /// Its offset from the value that rsp had at the function's entry, in bytes.
     pub offset: i64,
@@ -27,7 +27,7 @@ pub struct Slot {
 }
 
 /// The parts of a state, as lists.
-#[derive(Debug, Drop)]
+#[derive(Drop)]
 pub struct StateParts {
     /// Of each of the sixteen registers, by number, how far it is from the value that rsp had at the function's
     /// entry, in bytes, where that is known.

@@ -14,7 +14,7 @@ use vw_names::Spot;
 use vw_values::Value;
 
 /// What is known of bytes of the frame that are written.
-#[derive(Clone, Copy, Debug, PartialEq, Eq)]
+#[derive(Clone, Copy, PartialEq, Eq)]
 pub enum Content {
     /// Nothing: no slot stands there.
     Nothing,

@@ -1,5 +1,5 @@
 -- How often a state of a function can rise while its equations are solved, and the steps that this costs.
-use Rattle.std.proofs.Common.{◌≡◌, ℕ, zero, suc, ◌+◌, ◌*◌, ◌≤◌, max, List, [], length, refl, arith, subst}
+use Rattle.std.proofs.Common.{◌≡◌, ℕ, zero, suc, ◌+◌, ◌*◌, ◌≤◌, max, List, length, refl, arith, subst}
 use Rattle.vw_locals.specs.Ranges.{bytes}
 use Rattle.vw_locals.specs.RangeOrder.{ranked}
 use Rattle.vw_solver.specs.Solution.{weights_from}
@@ -17,9 +17,9 @@ use Rattle.vw_graph.proofs.StandingLemmas.{Keeps, Grows, standing_good, standing
 within_max : (old limit new : ℕ) → new ≤ max old limit → old ≤ limit → new ≤ limit
 within_max old limit new le under = omega (arith, le, under)
 
-module _ (small : StateRanksAreSmall) (entry : EntryIsState) (f : Context) (valid : EdgesAreValid f) (grow : EdgesGrow f) (points : ℕ) (size : points ≡ f.size + 1) where
+module _ (small : StateRanksAreSmall) (entry : EntryIsState) (f : Context) (valid : EdgesAreValid f) (grow : EdgesGrow f) (pairs : List (ℕ × ℕ)) (points : ℕ) (size : points ≡ f.size + 1) where
   abbrev EdgesOf : ℕ → Parts → List (ℕ × Parts)
-  EdgesOf at state = edges_with f [] at state
+  EdgesOf at state = edges_with f pairs at state
 
   abbrev IsValid : Parts → Type 0
   IsValid = IsValidState f.bounds
@@ -31,19 +31,19 @@ module _ (small : StateRanksAreSmall) (entry : EntryIsState) (f : Context) (vali
   keeps : Keeps state_below IsValid IsGood EdgesOf points 0 entry_state
   keeps = record {
     first_good = (entry f.bounds, omega arith);
-    edge_good = λ at state inside good k d less. (valid [] at state good.0 k d less, within_max state.probed (depth_limit f) _ ((grow [] at state good.0 k d less).probed) good.1);
+    edge_good = λ at state inside good k d less. (valid pairs at state good.0 k d less, within_max state.probed (depth_limit f) _ ((grow pairs at state good.0 k d less).probed) good.1);
     join_good = λ at x y join good_x good_y is. let above = is.above_left.probed in (is.valid, omega (arith, above, good_x.1));
   }
 
   slots_grow : Grows state_below IsValid IsGood (λ s. length s.slots) 1 EdgesOf
   slots_grow = record {
-    adds = λ at state good k d less. (grow [] at state good.0 k d less).slots;
+    adds = λ at state good k d less. (grow pairs at state good.0 k d less).slots;
     falls = λ at x y join good_x good_y is. fewer_slots x.slots join.slots good_x.0.state.slots is.valid.state.slots is.above_left.slots;
   }
 
   written_grows : Grows state_below IsValid IsGood (λ s. bytes s.written) 16 EdgesOf
   written_grows = record {
-    adds = λ at state good k d less. (grow [] at state good.0 k d less).written;
+    adds = λ at state good k d less. (grow pairs at state good.0 k d less).written;
     falls = λ at x y join good_x good_y is. (ranked join.written x.written good_x.0.state.ranges is.valid.state.ranges is.above_left.written).0;
   }
 

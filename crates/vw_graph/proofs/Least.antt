@@ -32,32 +32,32 @@ Only = (f : Context) (targets : Var → Abstract → List ℕ) (at : ℕ) (state
 one_state : (o : Option Parts) (a b : Parts) → o ≡ Some a → o ≡ Some b → a ≡ b
 one_state o a b is_a is_b = cc
 
-module _ (are : Are) (only : Only) (entry : EntryIsState) (f : Context) (bytes : IsBytes (code_of f)) (rise : EdgesRise f) (valid : EdgesAreValid f) (points : ℕ) (size : points ≡ f.size + 1) where
+module _ (are : Are) (only : Only) (entry : EntryIsState) (f : Context) (bytes : IsBytes (code_of f)) (rise : EdgesRise f) (valid : EdgesAreValid f) (pairs : List (ℕ × ℕ)) (points : ℕ) (size : points ≡ f.size + 1) where
   abbrev EdgesOf : ℕ → Parts → List (ℕ × Parts)
-  EdgesOf at state = edges_with f [] at state
+  EdgesOf at state = edges_with f pairs at state
 
   abbrev IsValid : Parts → Type 0
   IsValid = IsValidState f.bounds
 
   abbrev targets_at : ℕ → Var → Abstract → List ℕ
-  targets_at at src st = seconds at []
+  targets_at at src st = seconds at pairs
 
   -- ---- each state that stands is below that of a solution
 
-  module _ (other : List PointState) (solution : SolvesWith f [] other) where
+  module _ (other : List PointState) (solution : SolvesWith f pairs other) where
     abbrev IsUnder : ℕ → Parts → Type 0
     IsUnder at state = IsValid state × Lands f other (at, state)
 
-    edge_under : (at : ℕ) (state : Parts) → IsUnder at state → All {X = ℕ × Parts} (λ edge. IsUnder edge.0 edge.1) (edges_with f [] at state)
+    edge_under : (at : ℕ) (state : Parts) → IsUnder at state → All {X = ℕ × Parts} (λ edge. IsUnder edge.0 edge.1) (edges_with f pairs at state)
     edge_under at state under = λ k d less.
-        let edge : ℕ × Parts = slice_index_or (edges_with f [] at state) k d in
+        let edge : ℕ × Parts = slice_index_or (edges_with f pairs at state) k d in
         let cover : Parts = under.1.cover in
-        let above : List (ℕ × Parts) = edges_with f [] at cover in
-        let rises = rise [] at state cover under.0 under.1.fits under.1.is_below k d less in
+        let above : List (ℕ × Parts) = edges_with f pairs at cover in
+        let rises = rise pairs at state cover under.0 under.1.fits under.1.is_below k d less in
         let u : Parts = rises.0 in
         let V : ℕ × Parts → Type 0 = λ e. IsValid e.1 in
-        let here : IsValid edge.1 = valid [] at state under.0 k d less in
-        let middle : IsValid u = All-contains V above (edge.0, u) (valid [] at cover under.1.fits) rises.1 in
+        let here : IsValid edge.1 = valid pairs at state under.0 k d less in
+        let middle : IsValid u = All-contains V above (edge.0, u) (valid pairs at cover under.1.fits) rises.1 in
         let lands : Lands f other (edge.0, u) = All-contains (Lands f other) above (edge.0, u) (solution.closed at cover under.1.there above (are f (targets_at at) at cover bytes)) rises.1 in
         (here, record { cover = lands.cover; there = lands.there; fits = lands.fits; is_below = state_transitive f.bounds edge.1 u lands.cover here middle lands.fits rises.2 lands.is_below })
 
@@ -85,16 +85,16 @@ module _ (are : Are) (only : Only) (entry : EntryIsState) (f : Context) (bytes :
       is_below = covered.is_below;
     }
 
-    all_land : (at : ℕ) (state : Parts) → state_of (gather 0 table) at ≡ Some state → (edges : List (ℕ × Parts)) → PostWith f [] at state edges → All (Lands f (gather 0 table)) edges
+    all_land : (at : ℕ) (state : Parts) → state_of (gather 0 table) at ≡ Some state → (edges : List (ℕ × Parts)) → PostWith f pairs at state edges → All (Lands f (gather 0 table)) edges
     all_land at state e edges post =
         subst (λ (es : List (ℕ × Parts)). All (Lands f (gather 0 table)) es) (sym (only f (targets_at at) at state edges bytes post))
-        (λ k d less. lands (slice_index_or (edges_with f [] at state) k d) (least.solution.closed at state (sym (gathered table at) ∙ e) k d less))
+        (λ k d less. lands (slice_index_or (edges_with f pairs at state) k d) (least.solution.closed at state (sym (gathered table at) ∙ e) k d less))
 
-    lower : (other : List PointState) → SolvesWith f [] other → IsLower f (gather 0 table) other
+    lower : (other : List PointState) → SolvesWith f pairs other → IsLower f (gather 0 table) other
     lower other solution at state e =
         (standing_good state_below IsValid (IsUnder other solution) EdgesOf points 0 entry_state (keeps other solution) at state (record { table = table; pending = []; is_table = stands; there = sym (gathered table at) ∙ e })).1
 
-    pub is_least : IsLeastWith f [] (gather 0 table)
+    pub is_least : IsLeastWith f pairs (gather 0 table)
     is_least = record {
       solution = record {
         rises = gather_rises 0 f.size table (omega (arith, least.solution.size, size));

@@ -1,5 +1,5 @@
 -- What holds of each state that stands in a table while edges land, and how large it can be.
-use Rattle.std.proofs.Common.{◌≡◌, ℕ, zero, suc, ◌+◌, ◌*◌, ◌<◌, ◌≤◌, List, [], ◌∷◌, length, set, replicate, Option, Some, None, refl, sym, ap, subst, ◌∙◌, arith, inl, inr, All}
+use Rattle.std.proofs.Common.{◌≡◌, ℕ, zero, suc, ◌+◌, ◌*◌, ◌<◌, ◌≤◌, List, ◌∷◌, length, set, replicate, Option, Some, None, refl, sym, ap, subst, ◌∙◌, arith, inl, inr, All}
 use Rattle.std.specs.List.{Contains}
 use Rattle.std.proofs.lemmas.Bool.{cases_lt, cases_eq}
 use Rattle.std.proofs.lemmas.List.{get_or_past, length-set, get_or-replicate, length-replicate}
@@ -8,6 +8,7 @@ use Rattle.vw_lattice.specs.Order.{IsJoin}
 use Rattle.vw_solver.specs.Solution.{state_at}
 use Rattle.vw_solver.specs.Standing.{reaches, joins, IsTable, at_first, at_visit, at_landing, at_skip, IsStanding}
 use Rattle.vw_solver.specs.Tables.{table_sum, is_empty, empties}
+use Rattle.vw_graph.proofs.Members.{contains_head, contains_tail, contains_nil}
 use Rattle.vw_solver.proofs.Search.{same_state, state_within, table_sum_set, at_same, at_other}
 
 -- ---- the points without a state
@@ -33,17 +34,6 @@ none_in S points p s at =
       | inr past ↦ get_or_past empty p None (omega (arith, all))
     ] in
     absurd cc
-
--- ---- the items of a list
-
-contains_head : {X : Type 0} (x : X) (xs : List X) → Contains (x ∷ xs) x
-contains_head x xs = (0, omega arith, refl)
-
-contains_tail : {X : Type 0} (x y : X) (xs : List X) → Contains xs y → Contains (x ∷ xs) y
-contains_tail x y xs c = (suc c.0, omega (arith, c.1), c.2)
-
-contains_nil : {X : Type 0} (x : X) → Contains [] x → ⊥
-contains_nil x c = let inside : c.0 < 0 = c.1 in absurd (omega arith)
 
 -- ---- what is kept
 

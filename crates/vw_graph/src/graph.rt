@@ -1,9 +1,11 @@
-ghost use Rattle.std.specs.Prelude.{◌≡◌, ◌+◌, []};
+ghost use Rattle.std.specs.Prelude.{◌≡◌, ◌+◌};
 ghost use Rattle.vw_state.specs.Context.{context_of};
 ghost use Rattle.vw_state.specs.Post.{edges_with};
 ghost use Rattle.vw_graph.specs.Graphs.{IsGraph};
+ghost use Rattle.vw_graph.specs.Jumps.{pairs_of};
 ghost use Rattle.std.proofs.Common.{rules};
 
+use crate::jumps::slot;
 use std::alloc::Global;
 use std::marker::Model;
 use std::sync::ledger::Ledger;
@@ -12,10 +14,10 @@ use vw_domain::State;
 use vw_lattice::Lattice;
 use vw_layout::{Function, Module};
 use vw_solver::{Edges, Equations, Steps};
-use vw_state::{Site, post_of_code};
+use vw_state::{JumpTable, Site, edges_are_post, post_with};
 
-/// The equations of the first round over a function of a module, which contracts see as the function in its module: its
-/// points are 0 to its size, each counts one step, and there are no jumps through registers.
+/// The equations of a round over a function of a module, which contracts see as the function in its module and the
+/// pairs of points of its jumps through registers: its points are 0 to its size, and each counts one step.
 #[derive(Drop)]
 pub(crate) struct Graph<'a> {
     loaded: &'a Module,
@@ -23,31 +25,41 @@ pub(crate) struct Graph<'a> {
     site: Site<'a>,
     code: &'a [u8],
     points: u32,
+    jumps: &'a [Option<JumpTable>],
 }
 
 impl<'a> Model for Graph<'a> {
+    ghost use Rattle.std.specs.Prelude.{ℕ, List};
     ghost use Rattle.vw_state.specs.Context.{Context, context_of};
     ghost use Rattle.vw_graph.specs.Graphs.{IsGraph};
+    ghost use Rattle.vw_graph.specs.Jumps.{pairs_of};
 
-    ghost Value = { Context };
+    ghost Value = { Context × List (ℕ × ℕ) };
 
-    ghost view = { λ graph. context_of graph.loaded.now graph.declared.now };
+    ghost view = { λ graph. (
+      context_of graph.loaded.now graph.declared.now,
+      pairs_of (context_of graph.loaded.now graph.declared.now) graph.jumps.now,
+    ) };
 
     ghost invariant = { λ graph.
         IsGraph (context_of graph.loaded.now graph.declared.now) graph.site graph.code.now graph.points };
 }
 
 impl<'a> Graph<'a> {
-    /// The equations of a function with this code and site.
+    /// The equations of a function with this code and site, where jumps through registers go to where these tables lead.
     pub(crate) fn of_function(
         loaded: &'a Module,
         declared: &'a Function,
         site: Site<'a>,
         code: &'a [u8],
         points: u32,
+        jumps: &'a [Option<JumpTable>],
     ) -> Graph<'a>
         requires { IsGraph (context_of loaded.now declared.now) site code.now points }
-        ensures { result ≡ context_of loaded.now declared.now }
+        ensures { result ≡ (
+          context_of loaded.now declared.now,
+          pairs_of (context_of loaded.now declared.now) jumps.now,
+        ) }
     {
         Graph {
             loaded,
@@ -55,6 +67,7 @@ impl<'a> Graph<'a> {
             site,
             code,
             points,
+            jumps,
         }
     }
 }
@@ -62,13 +75,13 @@ impl<'a> Graph<'a> {
 impl<'a> Equations for Graph<'a> {
     type State = State;
 
-    ghost points = { λ f. f.size + 1 };
+    ghost points = { λ g. g.0.size + 1 };
 
-    ghost bounds = { λ f. f.bounds };
+    ghost bounds = { λ g. g.0.bounds };
 
-    ghost weight = { λ f at. 1 };
+    ghost weight = { λ g at. 1 };
 
-    ghost edges = { λ f at state. edges_with f [] at state };
+    ghost edges = { λ g at state. edges_with g.0 g.1 at state };
 
     fn points(&self) -> u32 {
         self.points
@@ -90,8 +103,10 @@ impl<'a> Equations for Graph<'a> {
         out: &mut Edges<State>,
         steps: &mut Steps<L>,
     ) -> Result<(), OutOfMemory> {
+        edges_are_post();
         steps.tick();
-        post_of_code(alloc, &self.site, self.code, at, state, out)
+        let table = slot(self.jumps, at);
+        post_with(alloc, &self.site, self.code, at, table, state, out)
     }
 
     ghost weighs = { Prim.search rules };

@@ -2,10 +2,12 @@
 #![tactic(auto)]
 
 mod all_rounds;
-mod faults;
 mod graph;
+mod jumps;
+mod looks;
 mod round;
 mod solved;
+mod walk;
 
 pub use all_rounds::Rounds;
 pub use round::{rounds, rounds_at};

@@ -13,68 +13,117 @@ use vw_state::PointState;
 /// A number of so many bytes at an offset: (offset, bytes, number).
 type Patch = (usize, usize, u64);
 
-/// A file of 376 bytes with a function at address 120: one PT_LOAD with R and X, from 0 at address 0; eight
-/// bytes of code; a null symbol and one of the function; strings; the headers of three sections.
-const FILE: [Patch; 28] = [
+/// A file of 432 bytes with a function at address 120: one PT_LOAD with R and X, from 0 at address 0; 64 bytes for
+/// code; a null symbol and one of the function; strings; the headers of three sections.
+const FILE: [Patch; 29] = [
     (0, 4, 0x464c_457f),
     (4, 1, 2),
     (5, 1, 1),
     (16, 2, 3),
     (18, 2, 62),
     (32, 8, 64),
-    (40, 8, 184),
+    (40, 8, 240),
     (54, 2, 56),
     (56, 2, 1),
     (58, 2, 64),
     (60, 2, 3),
     (64, 4, 1),
     (68, 4, 5),
-    (96, 8, 128),
-    (104, 8, 128),
+    (96, 8, 184),
+    (104, 8, 184),
     (112, 8, 4096),
-    (152, 4, 1),
-    (156, 1, 0x12),
-    (158, 2, 1),
-    (160, 8, 120),
-    (177, 1, 0x66),
-    (252, 4, 2),
-    (272, 8, 128),
-    (280, 8, 48),
-    (288, 4, 2),
-    (304, 8, 24),
-    (316, 4, 3),
-    (336, 8, 176),
+    (208, 4, 1),
+    (212, 1, 0x12),
+    (214, 2, 1),
+    (216, 8, 120),
+    (233, 1, 0x66),
+    (308, 4, 2),
+    (328, 8, 184),
+    (336, 8, 48),
+    (344, 4, 2),
+    (360, 8, 24),
+    (372, 4, 3),
+    (392, 8, 232),
+    (400, 8, 3),
 ];
 
-/// Eight bytes of code, the first one lowest, the size of the function that they begin with, the place where
-/// the rounds stop, and the points of the table.
-type Case = (u64, u64, Option<(u32, u8)>, &'static [u32]);
+/// The code of a function, the place where the rounds stop, and the points of the last table.
+type Case = (&'static [u8], Option<(u32, u8)>, &'static [u32]);
 
-const CASES: [Case; 18] = [
-    (0xc3, 1, None, &[0]),
-    (0x0b0f, 2, None, &[0]),
+const CASES: [Case; 22] = [
+    (&[0xc3], None, &[0]),
+    (&[0x0f, 0x0b], None, &[0]),
     // loops
-    (0xc3_fe74, 3, None, &[0, 2]),
-    (0xfeeb, 2, None, &[0]),
-    (0xf8eb_f847_8b90_0174, 8, None, &[0, 2, 3, 6]),
+    (&[0x74, 0xfe, 0xc3], None, &[0, 2]),
+    (&[0xeb, 0xfe], None, &[0]),
+    (
+        &[0x74, 0x01, 0x90, 0x8b, 0x47, 0xf8, 0xeb, 0xf8],
+        None,
+        &[0, 2, 3, 6],
+    ),
     // out of the function: behind its end, to its end, below its start
-    (0xc3_0275, 3, Some((0, 2)), &[0, 2]),
-    (0x7feb, 2, Some((0, 2)), &[0]),
-    (0x00eb, 2, Some((0, 2)), &[0]),
-    (0xfdeb, 2, Some((0, 2)), &[0]),
+    (&[0x75, 0x02, 0xc3], Some((0, 2)), &[0, 2]),
+    (&[0xeb, 0x7f], Some((0, 2)), &[0]),
+    (&[0xeb, 0x00], Some((0, 2)), &[0]),
+    (&[0xeb, 0xfd], Some((0, 2)), &[0]),
     // on behind the end, and to a byte that begins no instruction
-    (0x90, 1, Some((1, 1)), &[0, 1]),
-    (0x06, 1, Some((0, 1)), &[0]),
-    (0x06_01eb, 3, Some((0, 2)), &[0]),
-    (0x06_00eb, 3, Some((2, 1)), &[0, 2]),
+    (&[0x90], Some((1, 1)), &[0, 1]),
+    (&[0x06], Some((0, 1)), &[0]),
+    (&[0xeb, 0x01, 0x06], Some((0, 2)), &[0]),
+    (&[0xeb, 0x00, 0x06], Some((2, 1)), &[0, 2]),
     // two places: the lowest one, whichever check
-    (0x9090_0274, 4, Some((0, 2)), &[0, 2, 3, 4]),
-    (0x7f_eb06_0174, 5, Some((2, 1)), &[0, 2, 3]),
+    (&[0x74, 0x02, 0x90, 0x90], Some((0, 2)), &[0, 2, 3, 4]),
+    (&[0x74, 0x01, 0x06, 0xeb, 0x7f], Some((2, 1)), &[0, 2, 3]),
     // the branch is never taken: no number is below 0
-    (0xc3fc_7200_f883_c031, 8, None, &[0, 2, 5, 7]),
+    (
+        &[0x31, 0xc0, 0x83, 0xf8, 0x00, 0x72, 0xfc, 0xc3],
+        None,
+        &[0, 2, 5, 7],
+    ),
     // a call goes on, and a jump through a register may leave
-    (0xc3_0000_0000_e8, 6, None, &[0, 5]),
-    (0xe0ff, 2, Some((0, 2)), &[0]),
+    (&[0xe8, 0x00, 0x00, 0x00, 0x00, 0xc3], None, &[0, 5]),
+    (&[0xff, 0xe0], Some((0, 2)), &[0]),
+    // a switch over three cases, whose table has a fourth entry that leads out of the function; with `ja` for `jae`
+    // it may be taken
+    (
+        &[
+            0x83, 0xfe, 0x03, 0x73, 0x14, 0x89, 0xf0, 0x48, 0x8d, 0x0d, 0x0c, 0x00, 0x00, 0x00,
+            0x48, 0x63, 0x04, 0x81, 0x48, 0x01, 0xc8, 0xff, 0xe0, 0xc3, 0xc3, 0xc3, 0xfd, 0xff,
+            0xff, 0xff, 0xfe, 0xff, 0xff, 0xff, 0xff, 0xff, 0xff, 0xff, 0x00, 0x10, 0x00, 0x00,
+        ],
+        None,
+        &[0, 3, 5, 7, 14, 18, 21, 23, 24, 25],
+    ),
+    (
+        &[
+            0x83, 0xfe, 0x03, 0x77, 0x14, 0x89, 0xf0, 0x48, 0x8d, 0x0d, 0x0c, 0x00, 0x00, 0x00,
+            0x48, 0x63, 0x04, 0x81, 0x48, 0x01, 0xc8, 0xff, 0xe0, 0xc3, 0xc3, 0xc3, 0xfd, 0xff,
+            0xff, 0xff, 0xfe, 0xff, 0xff, 0xff, 0xff, 0xff, 0xff, 0xff, 0x00, 0x10, 0x00, 0x00,
+        ],
+        Some((21, 2)),
+        &[0, 3, 5, 7, 14, 18, 21, 25],
+    ),
+    // a switch of which a case is another switch, and one in a loop
+    (
+        &[
+            0x83, 0xfe, 0x02, 0x73, 0x12, 0x89, 0xf0, 0x48, 0x8d, 0x0d, 0x22, 0x00, 0x00, 0x00,
+            0x48, 0x63, 0x04, 0x81, 0x48, 0x01, 0xc8, 0xff, 0xe0, 0xc3, 0x83, 0xfe, 0x02, 0x73,
+            0xfa, 0x89, 0xf0, 0x48, 0x8d, 0x0d, 0x12, 0x00, 0x00, 0x00, 0x48, 0x63, 0x04, 0x81,
+            0x48, 0x01, 0xc8, 0xff, 0xe0, 0xc3, 0xe8, 0xff, 0xff, 0xff, 0xe7, 0xff, 0xff, 0xff,
+            0xf7, 0xff, 0xff, 0xff, 0xdf, 0xff, 0xff, 0xff,
+        ],
+        None,
+        &[0, 3, 5, 7, 14, 18, 21, 23, 24, 27, 29, 31, 38, 42, 45, 47],
+    ),
+    (
+        &[
+            0x83, 0xfe, 0x02, 0x73, 0x14, 0x89, 0xf0, 0x48, 0x8d, 0x0d, 0x0c, 0x00, 0x00, 0x00,
+            0x48, 0x63, 0x04, 0x81, 0x48, 0x01, 0xc8, 0xff, 0xe0, 0xeb, 0xe7, 0xc3, 0xfd, 0xff,
+            0xff, 0xff, 0xff, 0xff, 0xff, 0xff,
+        ],
+        None,
+        &[0, 3, 5, 7, 14, 18, 21, 23, 25],
+    ),
 ];
 
 fn patch(bytes: &mut Vec<u8>, patches: &[Patch]) {
@@ -89,10 +138,13 @@ fn patch(bytes: &mut Vec<u8>, patches: &[Patch]) {
     }
 }
 
-fn file(alloc: Global, code: u64, size: u64) -> Result<List<u8>, AllocError> {
-    let mut bytes = vec![in alloc; 0u8; 376]?;
+fn file(alloc: Global, code: &[u8]) -> Result<List<u8>, AllocError> {
+    let mut bytes = vec![in alloc; 0u8; 432]?;
     patch(&mut bytes, &FILE);
-    patch(&mut bytes, &[(120, 8, code), (168, 8, size), (344, 8, 3)]);
+    patch(&mut bytes, &[(224, 8, code.len() as u64)]);
+    for (byte, place) in code.iter().zip(120..184) {
+        patch(&mut bytes, &[(place, 1, u64::from(*byte))]);
+    }
     Ok(List::from_vec(bytes))
 }
 
@@ -131,11 +183,11 @@ fn are_at(states: &[PointState], points: &[u32]) -> bool {
 
 #[test]
 fn rounds_of_functions(rt: HostRuntime) -> Result<(), Fail> {
-    for (code, size, place, points) in CASES.iter() {
-        let bytes = file(rt.alloc(), *code, *size)?;
+    for (code, place, points) in CASES.iter() {
+        let bytes = file(rt.alloc(), *code)?;
         let found = first_rounds::<Brand>(rt.alloc(), bytes, Blank::new(1)).ok_or("rounds")?;
-        assert_eq!(rt; stop(&found), *place, "{code:#x}, {size} bytes");
-        assert!(rt; are_at(states(&found), *points), "{code:#x}, {size} bytes");
+        assert_eq!(rt; stop(&found), *place, "{code:?}");
+        assert!(rt; are_at(states(&found), *points), "{code:?}");
     }
     Ok(())
 }

@@ -4,3 +4,4 @@ pub mod Places
 pub mod Steps
 pub mod Lengths
 pub mod Sample
+pub mod Guests

@@ -9,3 +9,4 @@ pub mod Relocations
 pub mod Text
 pub mod Tables
 pub mod Module
+pub mod Generator

@@ -1,8 +1,10 @@
 //! Writes whole modules: ELF64 shared objects for x86-64 with functions, import stubs, function tables and
-//! data, byte for byte as defined.
+//! data, byte for byte as defined; and makes them from a number, with as many functions as are wanted.
 #![tactic(auto)]
 
 mod buffer;
+mod generator;
+mod kinds;
 mod layout;
 mod parts;
 mod plan;
@@ -15,6 +17,7 @@ mod tables;
 mod text;
 mod write;
 
+pub use generator::make;
 pub use parts::{Func, Parts, Target};
 pub use write::write_module;
 

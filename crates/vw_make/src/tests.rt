@@ -1,7 +1,7 @@
 ghost use Rattle.std.specs.Prelude.{◌≡◌, [], ◌∷◌, IfOk};
 ghost use Rattle.vw_make.specs.Bounds.{MeetsBounds};
 
-use crate::{Func, Parts, Target, write_module};
+use crate::{Func, Parts, Target, make, write_module};
 use std::alloc::{AllocError, Global};
 use std::test::Fail;
 use vw_bits::{List, OutOfMemory, Text};
@@ -240,5 +240,98 @@ fn writes_each_byte_of_a_module(rt: HostRuntime) -> Result<(), Fail> {
     let bytes = expected(rt.alloc())?;
     assert_eq!(rt; file.as_slice().len(), LEN);
     assert!(rt; file.as_slice() == bytes.as_slice());
+    Ok(())
+}
+
+/// A generated module: how many functions it has, the number that it is from, the size of its file, where one of its
+/// functions begins, and the bytes of that one. They were worked out from the text of the format.
+type Guest<'a> = (u32, u64, usize, usize, &'a [u8]);
+
+const GUESTS: [Guest; 9] = [
+    // the first draw from 0 has 0xBDBF in its bits 33 to 48
+    (
+        1,
+        0,
+        4568,
+        432,
+        b"\x89\xF6\x8B\x84\x37\xBF\xBD\x00\x00\xC3\xCC",
+    ),
+    (
+        8,
+        7,
+        4936,
+        608,
+        b"\x89\xF6\x8B\x84\x37\x5E\x94\x00\x00\xC3\xCC",
+    ),
+    // the second draw from 7 gives 320 turns
+    (
+        8,
+        7,
+        4936,
+        624,
+        b"\x31\xC0\x89\xC1\x89\x34\x0F\x83\xC0\x04\x3D\x00\x05\x00\x00\x72\xF1\xC3\xCC",
+    ),
+    (
+        8,
+        7,
+        4936,
+        656,
+        b"\x83\xFE\x03\x73\x14\x89\xF0\x48\x8D\x0D\x0C\x00\x00\x00\x48\x63\x04\x81\x48\x01\xC8\xFF\xE0\xC3\xC3\xC3\xFD\xFF\xFF\xFF\xFE\xFF\xFF\xFF\xFF\xFF\xFF\xFF\xCC",
+    ),
+    (
+        8,
+        7,
+        4936,
+        704,
+        b"\x55\x48\x89\xE5\x48\x83\xEC\x10\x48\x89\x7D\xF8\x8B\x07\x48\x8B\x7D\xF8\x89\x47\x04\xC9\xC3\xCC",
+    ),
+    // to the stub at 864
+    (
+        8,
+        7,
+        4936,
+        736,
+        b"\x53\x48\x89\xFB\xE8\x77\x00\x00\x00\x8B\x03\x5B\xC3\xCC",
+    ),
+    // to the function at 608
+    (
+        8,
+        7,
+        4936,
+        752,
+        b"\x48\x83\xEC\x08\xE8\x67\xFF\xFF\xFF\x48\x83\xC4\x08\xC3\xCC",
+    ),
+    // to 4120 and 4112
+    (
+        8,
+        7,
+        4936,
+        768,
+        b"\x48\x8B\x0D\x11\x0D\x00\x00\x89\xF0\x48\x39\xC8\x73\x1B\x48\xC1\xE0\x04\x48\x8B\x0D\xF7\x0C\x00\x00\x48\x01\xC8\x48\x8B\x10\x48\x83\xFA\x05\x75\x04\xFF\x50\x08\xC3\x0F\x0B\xCC",
+    ),
+    // to the stub at 848
+    (
+        8,
+        7,
+        4936,
+        816,
+        b"\xB8\x00\x00\x02\x00\xE8\x16\x00\x00\x00\x48\x81\xEC\x00\x00\x02\x00\x48\x89\x04\x24\x48\x81\xC4\x00\x00\x02\x00\xC3\xCC",
+    ),
+];
+
+fn stands_at(file: &[u8], at: usize, bytes: &[u8]) -> bool {
+    match file.get(at..) {
+        Some(rest) => rest.starts_with(bytes),
+        None => false,
+    }
+}
+
+#[test]
+fn generates_functions_of_each_kind(rt: HostRuntime) -> Result<(), Fail> {
+    for (functions, number, size, at, code) in &GUESTS {
+        let file = make(rt.alloc(), (*functions).min(8), *number)?;
+        assert_eq!(rt; file.as_slice().len(), *size);
+        assert!(rt; stands_at(file.as_slice(), *at, code));
+    }
     Ok(())
 }

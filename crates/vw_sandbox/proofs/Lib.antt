@@ -22,4 +22,5 @@ pub mod TableSteps
 pub mod StubReads
 pub mod StubEntries
 pub mod TableRules
+pub mod Jumps
 pub mod StateTables

@@ -1,5 +1,5 @@
 -- From the rules of a module to the code that its functions hold in every instance.
-use Rattle.std.proofs.Common.{◌≡◌, ℕ, zero, suc, ◌+◌, ◌-◌, ◌≤◌, ◌<◌, ◌&&◌, ◌||◌, Bool, true, false, List, [], ◌∷◌, length, get_or, map, take, drop, Option, Some, None, slice_index, refl, sym, ◌∙◌, ap, arith, lit<}
+use Rattle.std.proofs.Common.{◌≡◌, ℕ, zero, suc, ◌+◌, ◌-◌, ◌^◌, ◌≤◌, ◌<◌, ◌&&◌, ◌||◌, Bool, true, false, List, [], ◌∷◌, length, get_or, map, take, drop, Option, Some, None, slice_index, refl, sym, ◌∙◌, ap, arith, lit<}
 use Rattle.std.specs.Prelude.{Contains}
 use Rattle.std.specs.List.{find, list_any}
 use Rattle.std.specs.Option.{option_or}
@@ -157,6 +157,14 @@ module _ (laws : Laws) (file : List ℕ) (is : IsModule file) (f : Function) (li
       let three = part.2 in
       let longer = bound.part in
       among_is s.vaddr s.memsz f.entry f.size one (omega arith) (omega arith)
+
+  -- and this ends at or before 2^31
+  pub ends_low : f.entry + f.size ≤ 2 ^ 31
+  ends_low =
+      let part = among code.segment.vaddr code.segment.memsz f.entry f.size in_part in
+      let high = part.2 in
+      let below = (bounds code.segment code.listed).below in
+      omega (arith, high, below)
 
   executable : in_executable (segments_of file) f.entry f.size ≡ true
   executable = any_of (λ s. is_executable s && in_memory f.entry f.size s) (segments_of file) code.segment code.listed (both_true (is_executable code.segment) (in_memory f.entry f.size code.segment) code.is_executed in_part)

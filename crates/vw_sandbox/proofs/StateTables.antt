@@ -1,11 +1,12 @@
 -- Safe tables of states are safe tables of their abstract forms.
-use Rattle.std.proofs.Common.{◌≡◌, ℕ, zero, suc, ◌+◌, ◌^◌, ◌<◌, ◌≤◌, inl, inr, ⊎_elim, ◌==◌, ◌||◌, Bool, true, false, if◌then◌else◌, ℤ, pos, negsuc, List, [], ◌∷◌, ◌++◌, length, map, take, drop, Option, Some, None, refl, sym, ap, ◌∙◌, subst, arith}
+use Rattle.std.proofs.Common.{◌≡◌, ℕ, zero, suc, ◌+◌, ◌*◌, ◌%◌, ◌^◌, ◌<◌, ◌≤◌, inl, inr, ⊎_elim, ◌==◌, ◌||◌, Bool, true, false, if◌then◌else◌, ℤ, pos, negsuc, List, [], ◌∷◌, ◌++◌, length, map, take, drop, Option, Some, None, refl, sym, ap, ◌∙◌, subst, arith}
 use Rattle.std.specs.Prelude.{Contains, ◌↔◌, nat_lt, is_some, option_map, option_and_then}
 use Rattle.std.specs.List.{All, AllByRecursion, find}
 use Rattle.std.specs.Option.{option_map_or}
 use Rattle.std.proofs.lemmas.Bool.{false≢true, eqb-true}
 use Rattle.std.proofs.lemmas.Bool.Decides.{nat_tests}
 use Rattle.std.proofs.lemmas.List.{length-drop}
+use Rattle.vw_bits.specs.Words.{sign_extended}
 use Rattle.vw_insn.specs.declared.instruction.Insn.{Insn}
 use Rattle.vw_insn.specs.declared.operations.Cond.{Cond}
 use Rattle.vw_insn.specs.declared.registers.Width.{Width}
@@ -29,7 +30,6 @@ use Rattle.vw_layout.specs.declared.calls.CallTarget.{CallTarget}
 use Rattle.vw_layout.specs.declared.calls.CallTarget.TheVariants as target
 use Rattle.vw_layout.specs.declared.functions.Function.{Function}
 use Rattle.vw_layout.specs.declared.layout.Module.{Module as Declared}
-use Rattle.vw_values.specs.declared.value.Value.{Value}
 use Rattle.vw_values.specs.declared.value.Value.TheVariants as value
 use Rattle.vw_domain.specs.declared.parts.Parts.{Parts}
 use Rattle.vw_domain.specs.Abstract.{Abstract, IsBelow, abstract_of}
@@ -42,25 +42,30 @@ use Rattle.vw_domain.specs.FormLaws.{StatesHaveForms, EntryIsState, HasDisplacem
 use Rattle.vw_domain.specs.FormRanges.{IsStateForm}
 use Rattle.vw_domain.specs.Forms.{OrderIsThatOfForms}
 use Rattle.vw_domain.specs.Operands.{index_of}
+use Rattle.vw_domain.specs.Sites.{Plain}
 use Rattle.vw_domain.specs.State.{entry_state}
 use Rattle.vw_domain.specs.StateOf as form
 use Rattle.vw_domain.specs.Statements.{applies, finish}
 use Rattle.vw_state.specs.declared.tables.FunctionTable.{FunctionTable}
 use Rattle.vw_state.specs.declared.tables.PointState.{PointState}
 use Rattle.vw_state.specs.declared.tables.Tables.{Tables as Given}
+use Rattle.vw_state.specs.Checks.{StaysInside}
 use Rattle.vw_state.specs.Code.{BeginsAt}
 use Rattle.vw_state.specs.Context.{Context, code_of, context_of, site_at}
+use Rattle.vw_state.specs.declared.jumps.JumpTable.{JumpTable}
 use Rattle.vw_state.specs.Laws.{HasSites}
-use Rattle.vw_state.specs.Post.{PostBy, nothing, begins, relative_point, inside, address_in, called_address, calls_probe, destinations, edge_to, branch_edge, after_direct, flow_forms, form_behind, insn_forms, insn_edges, with_state, edges_by}
+use Rattle.vw_state.specs.Post.{PostBy, nothing, begins, relative_point, inside, address_in, called_address, calls_probe, jump_table, entry_target, targets_from, table_targets, destinations, edge_to, carry, branch_edge, after_direct, flow_forms, form_behind, insn_forms, insn_edges, with_state, edges_by}
 use Rattle.vw_state.specs.Solution.{Lands as LandsIn}
+use Rattle.vw_state.specs.Sites.{site_word}
 use Rattle.vw_state.specs.Tables.{state_of}
-use Rattle.vw_checks.specs.Checks.{called_target, MayEnter, FlowPasses, InstructionsAreChecked, lacks_code, at_insn}
+use Rattle.vw_checks.specs.Checks.{called_target, MayEnter, MayEnterBy, FlowPasses, InstructionsAreChecked, lacks_code, at_insn}
 use Rattle.vw_checks.specs.Modules.{TablesOf, AreSafe as AreSafeStates}
 use Rattle.vw_checks.specs.Safe.{IsSafeTable}
 use Rattle.vw_machine.specs.declared.world.World.{World}
 use Rattle.vw_machine.specs.Module.{view_of}
 use Rattle.vw_sandbox.specs.MapOf.{table_at, entry_of, callee_of, callee_read, callee_in, map_of}
 use Rattle.vw_sandbox.specs.Tables.{Tables, Bounds, Lands, IsProbeAt, IsCalleeAt, IsSpelled, Calls, EdgeLands, Follows, IsSafeAt, AreSafe, IsMapOf}
+use Rattle.vw_sandbox.proofs.Jumps.{entry_leads, each_target, each_edge, told_by, stays, function_told}
 use Rattle.vw_sandbox.proofs.Modules.{HoldsCode, code_bytes, IsBytes-drop, found_of}
 use Rattle.vw_sandbox.proofs.Rules.{any_passes, is_some_of, or_cases}
 use Rattle.vw_sandbox.proofs.Spellings.{begins_some, spelled_word}
@@ -148,8 +153,6 @@ address_is (pos n) a is = by_test (nat_lt n (2 ^ 64)) is
     by_test false e = absurd (none_some e)
 address_is (negsuc n) a is = absurd (none_some is)
 
--- ---- values
-
 -- ---- the table of a function
 
 -- no other function begins where this one does
@@ -179,7 +182,8 @@ table_for m (g ∷ functions) (t ∷ tables) f alone listed safe =
 -- ---- the tables of a module
 
 module _ (laws : StateLaws) (m : Declared) (tables : Given) (whole : IsWhole m) (of_bytes : IsBytes m.image.bytes) (safe : AreSafeStates m tables) (alone : (f : Function) → Contains m.functions f → IsAlone m.functions f)
-    (bytes : (f : Function) → Contains m.functions f → IsBytes (code_of (context_of m f))) (held : (f : Function) → Contains m.functions f → HoldsCode (view_of m) f (code_of (context_of m f))) where
+    (bytes : (f : Function) → Contains m.functions f → IsBytes (code_of (context_of m f))) (held : (f : Function) → Contains m.functions f → HoldsCode (view_of m) f (code_of (context_of m f)))
+    (ends : (f : Function) → Contains m.functions f → f.entry + f.size ≤ 2 ^ 64) where
   abbrev abstracts : Tables
   abstracts = forms_of tables.functions
 
@@ -337,13 +341,36 @@ module _ (laws : StateLaws) (m : Declared) (tables : Given) (whole : IsWhole m) 
           by_address None named may = absurd may
           by_address (Some place) named may = (place, address_is _ place named, by_probe place named may (is_probe_stub c.image place) refl)
 
+      -- a jump through a table, each of whose entries has an edge
+      jumps_by : (src : Var) → ((StaysInside c (jump_table (value_of st (index_of src))) → ⊥) → ⊥) → AllByRecursion LandsAs (carry (destinations c src st) (finish st)) → Goes (flow.JumpReg src)
+      jumps_by src inside l =
+          let known = stays c (jump_table (value_of st (index_of src))) inside in
+          let table = known.0 in
+          let points : AllByRecursion (λ to. LandsAs (to, finish st)) (targets_from c table 0 table.count) =
+          each_edge LandsAs (targets_from c table 0 table.count) (finish st) (subst (λ (o : Option JumpTable). AllByRecursion LandsAs (carry (table_targets c o) (finish st))) known.1 l) in
+          (table.base, table.count, told_by (value_of st (index_of src)) table known.1, λ i less. by_target table points i less (entry_target c table i) refl (known.2 i less))
+        where
+          by_target : (table : JumpTable) → AllByRecursion (λ to. LandsAs (to, finish st)) (targets_from c table 0 table.count) → (i : ℕ) → i < table.count
+              → (o : Option ℕ) → entry_target c table i ≡ o → (entry_target c table i ≡ None → ⊥)
+              → (x : ℕ) × (site_word c.image (table.base + 4 * i) 4 ≡ Plain x) × (to : ℕ) × ((table.base + sign_extended x 4) % 2 ^ 64 ≡ f.entry + to) × Arrives (finish st) to
+          by_target table points i less None e some = absurd (some e)
+          by_target table points i less (Some to) e some =
+              let led = entry_leads c table i to has_sites (ends f listed) e in
+              (led.x, led.at_site, to, led.sum, lands_at to (finish st) finished (each_target (λ to. LandsAs (to, finish st)) c table 0 table.count points i to less (ap (entry_target c table) (omega arith) ∙ e)))
+
+      -- a call of the function of an entry whose tag is known
+      calls_by : (src : Var) → MayPush st → MayEnterBy src st → LandsAs (next, after_call st) → Goes (flow.CallReg src)
+      calls_by src push may l =
+          let told = function_told (value_of st (index_of src)) may.0 in
+          (told.0, told.1, told.2, may.1, push, lands_at next (after_call st) (laws.calls c.bounds st is_kept is) l)
+
       follows : (k : Flow) → FlowPasses c next st k → AllByRecursion LandsAs (flow_forms c (destinations c) next st k) → Goes k
       follows flow.Next p l = lands_at next (finish st) finished l.0
       follows (flow.Jump rel) p l = jumps rel (inside c.size (relative_point next rel)) refl p l
       follows (flow.Branch cond rel) p l = branches cond rel (inside c.size (relative_point next rel)) refl p l
-      follows (flow.JumpReg src) p l = absurd (p tt)
+      follows (flow.JumpReg src) p l = jumps_by src p l
       follows (flow.Call rel) p l = calls rel p.0 p.1 l.0
-      follows (flow.CallReg src) p l = absurd p.1
+      follows (flow.CallReg src) p l = calls_by src p.0 p.1 l.0
       follows flow.Ret p l = p
       follows flow.Stop p l = tt
 

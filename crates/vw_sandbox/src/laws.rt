@@ -1,14 +1,19 @@
 //! Facts about the definitions, each the contract of a function that does nothing: they show that the definitions refuse
 //! what they are meant to refuse, that what they say of every run speaks of some, and by what rules it is shown.
 
-ghost use Rattle.std.specs.Prelude.{◌≡◌, ◌≢◌, ◌⊎◌, ◌↔◌, true, ℕ, ◌+◌, ◌-◌, ◌≤◌, List, [], ◌∷◌, Contains};
+ghost use Rattle.std.specs.Prelude.{◌≡◌, ◌≢◌, ◌⊎◌, ◌↔◌, false, true, ℕ, ◌+◌, ◌-◌, ◌*◌, ◌%◌, ◌^◌, ◌≤◌, ◌<◌, List, [], ◌∷◌, Some, Contains, slice_get};
+ghost use Rattle.vw_bits.specs.Words.{sign_extended};
 ghost use Rattle.vw_image.specs.Image.{image_of};
-ghost use Rattle.vw_insn.specs.Effect.{Ordinary};
+ghost use Rattle.vw_image.specs.Words.{word_at};
+ghost use Rattle.vw_insn.specs.Effect.{Ordinary, Indirect};
 ghost use Rattle.vw_insn.specs.Words.{Registers};
 ghost use Rattle.vw_layout.specs.Layout.{IsModule, declared_functions};
 ghost use Rattle.vw_layout.specs.declared.functions.Function.{Function};
+ghost use Rattle.vw_layout.specs.declared.tables.TableInfo.{TableInfo};
+ghost use Rattle.vw_layout.specs.declared.tables.TableEntry.{TableEntry};
 ghost use Rattle.vw_rows.specs.Numbers.{IsBytes};
 ghost use Rattle.vw_rows.specs.Spelling.{Spells};
+ghost use Rattle.vw_switch.specs.Targets.{target};
 ghost use Rattle.vw_state.specs.Code.{code_at, NothingAt};
 ghost use Rattle.vw_machine.specs.declared.world.World.{World};
 ghost use Rattle.vw_machine.specs.declared.choice.Choice.{Choice};
@@ -19,6 +24,7 @@ ghost use Rattle.vw_machine.specs.State.{Activation, State};
 ghost use Rattle.vw_machine.specs.Standing.{Here, IsOf, StandsAt};
 ghost use Rattle.vw_machine.specs.Step.{Went, Returned, step};
 ghost use Rattle.vw_machine.specs.Events.{events};
+ghost use Rattle.vw_machine.specs.Permitted.{is_pointer};
 ghost use Rattle.vw_machine.specs.Entered.{IsInitial};
 ghost use Rattle.vw_sandbox.specs.Runs.{Reaches, RunsTo};
 ghost use Rattle.vw_sandbox.specs.Claims.{KeepsRegisters};
@@ -28,7 +34,8 @@ ghost use Rattle.vw_sandbox.specs.Assertions.{Moment, AreKept};
 ghost use Rattle.vw_sandbox.specs.Stated.{AreStated};
 
 use vw_image::{
-    code_is_settled, file_bytes_are_memory, segments_are_bounded, words_are_numbered, words_spell,
+    Word, code_is_settled, file_bytes_are_memory, segments_are_bounded, words_are_numbered,
+    words_spell,
 };
 use vw_insn::Insn;
 use vw_layout::{
@@ -37,7 +44,7 @@ use vw_layout::{
 };
 use vw_lift::{effect_is_a_run, lists_are_in_form};
 use vw_machine::one_thing_stands;
-use vw_state::code_has_its_size;
+use vw_state::{code_has_its_size, functions_have_sites};
 use vw_stmt::words_stay;
 
 /// For each module there is an instance that is laid out well, and for each of its functions a state in which the
@@ -86,6 +93,34 @@ pub fn transfers_keep_to_points()
         → to ≢ w.load + f.entry + point)
         → InsnKeepsToMap m w map top rip Ordinary (Goto to) → ⊥ }
 {}
+
+/// A call through a register or memory keeps to no tables where its target is the pointer of no entry of the table and
+/// with the tag that they give its operand: so not to tables that give it another table or tag, or none.
+pub fn calls_keep_to_entries()
+    ensures { (m : Module) (w : World) (map : Map) (top : Activation) (rip to : ℕ)
+        → ((f : Function) (point number : ℕ) (t : TableInfo) (e : TableEntry) → IsOf m w top f
+        → rip ≡ w.load + f.entry + point → map.callee f.entry point ≡ Some (number, e.tag)
+        → slice_get m.tables number ≡ Some t → Contains t.entries e
+        → is_pointer w e.pointer to ≡ false)
+        → InsnKeepsToMap m w map top rip Indirect (Goto to) → ⊥ }
+{}
+
+/// Where an entry of a table of jumps leads to a point of a function, it holds a plain word, and the table's address plus
+/// this word with its sign extended is the point's address, modulo 2^64: what MOVSXD and ADD make of it.
+pub fn jump_entries_are_distances()
+    ensures { (file : List ℕ) (f : Function) (base i to : ℕ) → IsModule file → IsBytes file
+        → Contains (declared_functions file) f
+        → target (image_of file) base i f.entry f.size ≡ Some to
+        → (x : ℕ) × (word_at (image_of file) (base + 4 * i) 4 ≡ Word.Plain x)
+        × ((base + sign_extended x 4) % 2 ^ 64 ≡ f.entry + to) × (to < f.size) }
+{
+    functions_are_code();
+    functions_have_sites();
+    code_is_settled();
+    file_bytes_are_memory();
+    segments_are_bounded();
+    code_has_its_size();
+}
 
 /// A step that returns to the host with rsp elsewhere than 8 above that at the entry, or with another rbx, rbp or r12 to
 /// r15, is not as a function should return.

@@ -7,7 +7,8 @@ mod state_laws;
 mod table_laws;
 
 pub use laws::{
-    Assertions, Claim, asserted_code_is_sandboxed, kept_claims_are_met, reaches_by_choices,
+    Assertions, Claim, asserted_code_is_sandboxed, calls_keep_to_entries,
+    jump_entries_are_distances, kept_claims_are_met, reaches_by_choices,
     returning_code_is_sandboxed, runs_begin, sandboxed_by_choices, stated_code_is_sandboxed,
     transfers_keep_to_points, unspelled_code_is_not_sandboxed, writes_stay_in_bounds,
     wrong_returns_are_refused,

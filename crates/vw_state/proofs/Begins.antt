@@ -38,6 +38,20 @@ module _ (no_front : (bytes : List ℕ) → IsBytes bytes → (read bytes ≡ No
   nothing_read : read (drop at code) ≡ None → NothingAt code at
   nothing_read e i len b = (no_front (drop at code) (IsBytes-drop at code bytes)).0 e len i b.spelled
 
+  -- one instruction begins there
+  pub begins_alone : (i j : Insn) (len other : ℕ) → BeginsAt code at i len → BeginsAt code at j other → (i ≡ j) × (len ≡ other)
+  begins_alone i j len other b d = from (read (drop at code)) refl
+    where
+      read_as : (found : Found) → read (drop at code) ≡ Some found → (k : Insn) (n : ℕ) → BeginsAt code at k n → (insn_found found ≡ k) × (read_len found ≡ n)
+      read_as found e k n begun = only (drop at code) found n k e (omega (arith, begun.inside, length-drop at code)) begun.spelled
+
+      from : (found : Option Found) → read (drop at code) ≡ found → (i ≡ j) × (len ≡ other)
+      from None e = absurd (nothing_read e i len b)
+      from (Some found) e =
+          let first = read_as found e i len b in
+          let second = read_as found e j other d in
+          (sym first.0 ∙ second.0, sym first.1 ∙ second.1)
+
   module _ (targets : Var → Abstract → List ℕ) (state : Parts) where
     is_post : (found : Option Found) → read (drop at code) ≡ found → PostBy f targets at state (edges_read f targets at state found)
     is_post None e = nothing (nothing_read e)

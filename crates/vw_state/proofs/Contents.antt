@@ -1,5 +1,5 @@
 -- What is known of operands, and of words that are stored.
-use Rattle.std.proofs.Common.{ℕ, ◌%◌, ◌^◌, ◌<◌, ◌≤◌, List, arith}
+use Rattle.std.proofs.Common.{ℕ, ◌^◌, List, arith}
 use Rattle.std.proofs.lemmas.Nat.{mod_below}
 use Rattle.vw_names.specs.declared.spot.Spot.TheVariants.{Reg}
 use Rattle.vw_stmt.specs.declared.operands.Operand.{Operand}

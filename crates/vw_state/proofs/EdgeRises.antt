@@ -147,7 +147,7 @@ module _ (laws : EdgeLaws) (f : Context) (sites : HasSites f) where
           let fields = spelled_steps laws.listed laws.in_form bytes i spelled in
           laws.lists_keep (site_at f next) (abstract_of state) (steps i) (sites next) (laws.forms f.bounds state valid) fields.1 fields.0
 
-      below_behind : (low high : Parts) → IsValidState f.bounds low → IsValidState f.bounds high → state_below low high → IsBelow (form_behind f next i low) (form_behind f next i high)
+      pub below_behind : (low high : Parts) → IsValidState f.bounds low → IsValidState f.bounds high → state_below low high → IsBelow (form_behind f next i low) (form_behind f next i high)
       below_behind low high valid_low valid_high below =
           let fields = spelled_steps laws.listed laws.in_form bytes i spelled in
           laws.lists_rise (site_at f next) (abstract_of low) (abstract_of high) (steps i) (sites next) (laws.forms f.bounds low valid_low).form (laws.forms f.bounds high valid_high).form fields.1

@@ -5,6 +5,8 @@ use Rattle.std.proofs.lemmas.Bool.Decides.{nat_tests}
 use Rattle.std.proofs.lemmas.List.{map-append}
 use Rattle.std.proofs.Math.Path.{fun_ext}
 use Rattle.vw_insn.specs.declared.operations.Cond.{Cond}
+use Rattle.vw_insn.specs.declared.instruction.Insn.{Insn}
+use Rattle.vw_stmt.specs.declared.operands.Var.{Var}
 use Rattle.vw_stmt.specs.declared.statement.Flow.{Flow}
 use Rattle.vw_stmt.specs.declared.statement.Flow.TheVariants as flow
 use Rattle.vw_insn.specs.declared.registers.Width.{Width}
@@ -17,29 +19,31 @@ use Rattle.vw_values.specs.Bounds.{IsBounds}
 use Rattle.vw_values.specs.Refinements.{below}
 use Rattle.vw_values.specs.Values.{IsValue}
 use Rattle.vw_values.proofs.Search.{none-above}
+use Rattle.vw_lift.specs.Lifted.{flow_of}
 use Rattle.vw_domain.specs.declared.parts.Fact.{Fact}
 use Rattle.vw_domain.specs.declared.parts.Parts.{Parts}
 use Rattle.vw_domain.specs.declared.refines.Comparison.{Comparison}
-use Rattle.vw_domain.specs.State.{IsState, Fits, IsValidState}
+use Rattle.vw_domain.specs.State.{IsState, IsValidState}
 use Rattle.vw_domain.specs.StateOf.{state_of}
 use Rattle.vw_domain.specs.Abstract.{Abstract, abstract_of}
 use Rattle.vw_domain.specs.Branches.{Rule, IsLess, refiner, rule_at, frame_places, may_go, MayGo, edge_state, tags_by}
 use Rattle.vw_domain.specs.Statements.{finish}
 use Rattle.vw_domain.specs.Changes.{mark, is_other, refined_by}
 use Rattle.vw_domain.specs.Forms.{FormsTellStates}
-use Rattle.vw_domain.specs.FormLaws.{StatesHaveForms, StateOfForms, MayGoIsDecided}
+use Rattle.vw_domain.specs.FormLaws.{StatesHaveForms, StatesNameBounds, StateOfForms, MayGoIsDecided}
 use Rattle.vw_domain.specs.FormRanges.{IsStateForm}
 use Rattle.vw_domain.specs.Refines.{rule_told}
 use Rattle.vw_domain.specs.Sites.{Site}
 use Rattle.vw_state.specs.Context.{Context, site_at}
 use Rattle.vw_state.specs.Edges.{Tells}
-use Rattle.vw_state.specs.Post.{relative_point, inside, destinations, branch_edge, flow_forms, with_state}
+use Rattle.vw_state.specs.Post.{relative_point, inside, branch_edge, flow_forms, form_behind, with_state, insn_edges}
 
 -- a state is the one of its form
-pub again : StatesHaveForms → StateOfForms → FormsTellStates → (bounds : List ℕ) (s : Parts) → IsState s → Fits bounds s → state_of (abstract_of s) ≡ s
-again have built tell bounds s is fits =
-    let valid : IsValidState bounds s = record { state = is; fits = fits } in
-    let made = built bounds (abstract_of s) (have bounds s valid) in
+pub again : StatesHaveForms → StatesNameBounds → StateOfForms → FormsTellStates → (s : Parts) → IsState s → state_of (abstract_of s) ≡ s
+again have name built tell s is =
+    let names = name s is in
+    let valid : IsValidState names.0 s = record { state = is; fits = names.2 } in
+    let made = built names.0 (abstract_of s) (have names.0 s valid) in
     tell (state_of (abstract_of s)) s made.0.state is made.1
 
 -- ---- an edge that says of a word that it is below 2^64
@@ -74,7 +78,7 @@ same_refined : (b : Bool) (f : Value → Option Value) (v : Value) → f v ≡ S
 same_refined true f v e = rw e refl
 same_refined false f v e = refl
 
-module _ (site : Site) (bounds : IsBounds site.bounds) (st : Abstract) (form : IsStateForm site.bounds st) where
+module _ (site : Site) (bounds : IsBounds site.bounds) (st : Abstract) (members : List ℕ) (form : IsStateForm members st) where
   stays : (p : Spot) → below (st.values p) W64 (2 ^ 64) site.bounds ≡ Some (st.values p)
   stays p = below_whole site.bounds (st.values p) bounds (form.form.values p)
 
@@ -101,9 +105,9 @@ none_either false = refl
 pub no_target : (f : Context) (next : ℕ) (st : Abstract) (rule : Option (Width × Rule)) → branch_edge f next st rule None ≡ []
 no_target f next st rule = none_either (may_go (site_at f next) frame_places st rule)
 
-module _ (decided : MayGoIsDecided) (f : Context) (next : ℕ) (bounds : IsBounds f.bounds) (st : Abstract) (form : IsStateForm f.bounds st) (point : ℕ) where
+module _ (decided : MayGoIsDecided) (f : Context) (next : ℕ) (bounds : IsBounds f.bounds) (st : Abstract) (members : List ℕ) (form : IsStateForm members st) (point : ℕ) where
   goes : (rule : Option (Width × Rule)) → MayGo (site_at f next) frame_places st rule → branch_edge f next st rule (Some point) ≡ (point, edge_state (site_at f next) frame_places st rule) ∷ []
-  goes rule may = rw ((decided (site_at f next) f.bounds st rule form).1 may) refl
+  goes rule may = rw ((decided (site_at f next) members st rule form).1 may) refl
 
   -- where nothing is told, the edge carries the state as it is
   pub untold : (rule : Option (Width × Rule)) → Tells None rule → branch_edge f next st rule (Some point) ≡ (point, st) ∷ []
@@ -111,8 +115,8 @@ module _ (decided : MayGoIsDecided) (f : Context) (next : ℕ) (bounds : IsBound
   untold (Some r) h =
       let at : Width × Rule → Type 0 = λ x. branch_edge f next st (Some x) (Some point) ≡ (point, st) ∷ [] in
       subst at (sym h)
-      (goes (Some whole) (whole_goes (site_at f next) bounds st form)
-      ∙ ap (λ (s : Abstract). (point, s) ∷ []) (whole_state (site_at f next) bounds st form))
+      (goes (Some whole) (whole_goes (site_at f next) bounds st members form)
+      ∙ ap (λ (s : Abstract). (point, s) ∷ []) (whole_state (site_at f next) bounds st members form))
 
   -- where control may go along it, the edge carries what it tells
   pub taken : (rule : Option (Width × Rule)) (c : Comparison) → Tells (Some c) rule → MayGo (site_at f next) frame_places st (Some (rule_told c))
@@ -122,7 +126,7 @@ module _ (decided : MayGoIsDecided) (f : Context) (next : ℕ) (bounds : IsBound
       subst at (sym h) (goes (Some (rule_told c)) may)
 
   unless : (b : Bool) (rule : Option (Width × Rule)) → may_go (site_at f next) frame_places st rule ≡ b → (MayGo (site_at f next) frame_places st rule → ⊥) → branch_edge f next st rule (Some point) ≡ []
-  unless true rule e never = absurd (never ((decided (site_at f next) f.bounds st rule form).0 e))
+  unless true rule e never = absurd (never ((decided (site_at f next) members st rule form).0 e))
   unless false rule e never = rw e refl
 
   -- and where it may not, there is none
@@ -145,12 +149,12 @@ abbrev both_edges : Context → ℕ → Cond → Abstract → Fact → Option �
 both_edges f next cond st fact to = branch_edge f next st (rule_at cond true fact) to ++ branch_edge f next st (rule_at cond false fact) (Some next)
 
 -- once the one edge and then the other were appended, those of the branch were
-pub branch_edges : (f : Context) (next : ℕ) (cond : Cond) (rel : ℤ) (st fin : Abstract) (fact : Fact) (to : Option ℕ) (before mid after : List (ℕ × Parts))
+pub branch_edges : (f : Context) (targets : Var → Abstract → List ℕ) (next : ℕ) (cond : Cond) (rel : ℤ) (st fin : Abstract) (fact : Fact) (to : Option ℕ) (before mid after : List (ℕ × Parts))
     → fin ≡ finish st → fact ≡ fin.fact → to ≡ inside f.size (relative_point next rel)
     → mid ≡ before ++ map with_state (branch_edge f next fin (rule_at cond true fact) to)
     → after ≡ mid ++ map with_state (branch_edge f next fin (rule_at cond false fact) (Some next))
-    → after ≡ before ++ map with_state (flow_forms f (destinations f) next st (flow.Branch cond rel))
-branch_edges f next cond rel st fin fact to before mid after same told target first second =
+    → after ≡ before ++ map with_state (flow_forms f targets next st (flow.Branch cond rel))
+branch_edges f targets next cond rel st fin fact to before mid after same told target first second =
     let are : both_edges f next cond fin fact to ≡ both_edges f next cond (finish st) (finish st).fact (inside f.size (relative_point next rel)) =
     ap (λ (k : Fact). both_edges f next cond fin k to) told
     ∙ (ap (λ (s : Abstract). both_edges f next cond s s.fact to) same
@@ -158,10 +162,12 @@ branch_edges f next cond rel st fin fact to before mid after same told target fi
     joined before mid after (branch_edge f next fin (rule_at cond true fact) to) (branch_edge f next fin (rule_at cond false fact) (Some next)) first second
     ∙ ap (λ (xs : List (ℕ × Abstract)). before ++ map with_state xs) are
 
--- what is appended for a state and a flow is so for equal ones
-pub same_edges : (f : Context) (next : ℕ) (s st : Abstract) (k fl : Flow) (before after : List (ℕ × Parts)) → s ≡ st → k ≡ fl
-    → after ≡ before ++ map with_state (flow_forms f (destinations f) next s k) → after ≡ before ++ map with_state (flow_forms f (destinations f) next st fl)
-same_edges f next s st k fl before after same flow e =
+-- what was appended for the state behind an instruction's statements and its flow are the edges that are read from its bytes
+pub read_edges : (f : Context) (targets : Var → Abstract → List ℕ) (next : ℕ) (i : Insn) (state : Parts) (behind : Abstract) (fl : Flow) (before after edges : List (ℕ × Parts))
+    → behind ≡ form_behind f next i state → fl ≡ flow_of i → insn_edges f targets next state i ≡ edges
+    → after ≡ before ++ map with_state (flow_forms f targets next behind fl) → after ≡ before ++ edges
+read_edges f targets next i state behind fl before after edges same flow are e =
     e
-    ∙ (ap (λ (x : Abstract). before ++ map with_state (flow_forms f (destinations f) next x k)) same
-    ∙ ap (λ (x : Flow). before ++ map with_state (flow_forms f (destinations f) next st x)) flow)
+    ∙ (ap (λ (st : Abstract). before ++ map with_state (flow_forms f targets next st fl)) same
+    ∙ (ap (λ (x : Flow). before ++ map with_state (flow_forms f targets next (form_behind f next i state) x)) flow
+    ∙ ap (λ (es : List (ℕ × Parts)). before ++ es) are))

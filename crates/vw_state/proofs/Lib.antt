@@ -3,9 +3,13 @@ mod Spellings
 mod Sizes
 mod Flows
 mod Alike
+pub mod RoundLists
+mod RoundChecks
+mod RoundEdges
 mod RoundLemmas
 pub mod Sites
 mod EdgeStates
+mod TableTargets
 mod NearBounds
 mod BoundLists
 mod SiteRanges

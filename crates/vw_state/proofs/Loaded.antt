@@ -1,5 +1,5 @@
 -- Copies, loads and addresses.
-use Rattle.std.proofs.Common.{◌≡◌, ◌≢◌, ℕ, ◌+◌, ◌≤◌, ◌^◌, ◌==◌, ◌⊎◌, inl, inr, List, [], length, refl, sym, ap, ◌∙◌, subst, arith}
+use Rattle.std.proofs.Common.{◌≡◌, ◌≢◌, ℕ, ◌≤◌, ◌^◌, ◌==◌, ◌⊎◌, inl, inr, List, [], length, refl, sym, ap, ◌∙◌, subst, arith}
 use Rattle.std.specs.Prelude.{ℤ, pos, Bool, true, false, if◌then◌else◌, Option, Some, None, IfSome}
 use Rattle.std.specs.Ordering.{int_eq}
 use Rattle.vw_insn.specs.declared.registers.Reg.{Reg as GeneralRegister}
@@ -25,24 +25,21 @@ use Rattle.vw_values.specs.declared.extent.Extent.{Extent}
 use Rattle.vw_values.specs.declared.extent.Extent.TheVariants as extent
 use Rattle.vw_values.specs.declared.value.Value.{Value}
 use Rattle.vw_values.specs.declared.value.Value.TheVariants as value
-use Rattle.vw_domain.specs.declared.registers.Register.{Register}
 use Rattle.vw_domain.specs.Abstract.{Abstract}
 use Rattle.vw_domain.specs.Addresses.{Address, Frame, Heap, Globals, Image, Range, Entry, Unknown, value_of, known_or, by_symbol, by_image, by_pair, by_index, by_parts, address_of}
 use Rattle.vw_domain.specs.Changes.{write}
-use Rattle.vw_domain.specs.FormLaws.{StatementsKeepStateForms, IsDisplacement}
+use Rattle.vw_domain.specs.FormLaws.{HoldsBounds, StatementsKeepStateForms, IsDisplacement}
 use Rattle.vw_domain.specs.FormRanges.{IsStateForm}
-use Rattle.vw_domain.specs.Memory.{value_or, plain_kind, wide_value, half_value, whole_value, known_value, slot_half, load_value, load_source, slot_size, stored_value, stored_source, store_at}
-use Rattle.vw_domain.specs.Operands.{index_of, operand_of}
+use Rattle.vw_domain.specs.Memory.{value_or, plain_kind, wide_value, half_value, whole_value, known_value, slot_half, load_value, load_source, store_at}
+use Rattle.vw_domain.specs.Operands.{index_of}
 use Rattle.vw_domain.specs.Registers.{IsRegister, IsWithin}
 use Rattle.vw_domain.specs.Sites.{Site as EquationSite}
 use Rattle.vw_domain.specs.State.{plain_register}
 use Rattle.vw_domain.specs.Statements.{copy_source}
 use Rattle.vw_domain.proofs.StoreForms.{offset_tells}
 use Rattle.vw_state.specs.declared.site.Site.{Site}
-use Rattle.vw_image.specs.Image.{Contents}
-use Rattle.vw_state.specs.Context.{Context, IsSite, site_at}
+use Rattle.vw_state.specs.Context.{Context}
 use Rattle.vw_state.specs.Context.{equation_site}
-use Rattle.vw_state.specs.Sites.{site_of}
 use Rattle.vw_state.proofs.Written.{calm, calm_is_site, statement_known}
 
 -- ---- registers
@@ -103,15 +100,15 @@ address_calm : (site : Site) (next : ℕ) (st : Abstract) (mem : Mem) → addres
 address_calm site next st mem = parts_calm site next st mem.base mem.index mem.disp
 
 -- an address in the frame is that of a slot that a store leaves
-pub near_frame : (site : Site) (next : ℕ) (st : Abstract) (mem : Mem) → StatementsKeepStateForms → IsBounds site.bounds.now → length site.tables.now ≤ 64 → IsStateForm site.bounds.now st → IsMem mem → IsDisplacement mem.disp
+pub near_frame : (site : Site) (next : ℕ) (members : List ℕ) (st : Abstract) (mem : Mem) → StatementsKeepStateForms → IsBounds site.bounds.now → HoldsBounds members site.bounds.now → length site.tables.now ≤ 64 → IsStateForm members st → IsMem mem → IsDisplacement mem.disp
     → (x : ℤ) → address_of (equation_site site next) st mem ≡ Frame x → IsWithin (2 ^ 32) x
-near_frame site next st mem kept bounds few form is_mem disp x e = stored.slots x (stands (offset_tells x x))
+near_frame site next members st mem kept bounds holds few form is_mem disp x e = stored.slots x (stands (offset_tells x x))
   where
     at : address_of (calm site next) st mem ≡ Frame x
     at = sym (address_calm site next st mem) ∙ e
 
-    stored : IsStateForm site.bounds.now (store_at st (Frame x) 8 8 None (value.Const 0))
-    stored = subst (λ (a : Address). IsStateForm site.bounds.now (store_at st a 8 8 None (value.Const 0))) at (kept (calm site next) st (stmt.Store mem 8 (operand.Imm (pos 0))) (calm_is_site site next bounds few) form (inr (inr (inr refl)), is_mem) disp)
+    stored : IsStateForm members (store_at st (Frame x) 8 8 None (value.Const 0))
+    stored = subst (λ (a : Address). IsStateForm members (store_at st a 8 8 None (value.Const 0))) at (kept (calm site next) members st (stmt.Store mem 8 (operand.Imm (pos 0))) (calm_is_site site next bounds few) holds form (inr (inr (inr refl)), is_mem) disp)
 
     stands : ((int_eq x x ≡ true) × (x ≡ x)) ⊎ ((int_eq x x ≡ false) × (x ≢ x)) → (store_at st (Frame x) 8 8 None (value.Const 0)).sizes x ≢ 0
     stands (inl k) z = eight (int_eq x x) k.0 _ z
@@ -151,13 +148,13 @@ IsSound v = IsValue v × ((b : List ℕ) → IsAmong b v)
 abbrev pub IsKnown : List ℕ → Value → Type 0
 IsKnown b v = IsRegister (plain_register v) × IsAmong b v
 
-module _ (site : Site) (next : ℕ) (st : Abstract) (mem : Mem) (size : ℕ) (to : Width) (signed : Bool)
-    (kept : StatementsKeepStateForms) (bounds : IsBounds site.bounds.now) (few : length site.tables.now ≤ 64) (form : IsStateForm site.bounds.now st) (is_mem : IsMem mem) (is_load : IsLoad size to signed) (disp : IsDisplacement mem.disp) where
+module _ (site : Site) (next : ℕ) (members : List ℕ) (st : Abstract) (mem : Mem) (size : ℕ) (to : Width) (signed : Bool)
+    (kept : StatementsKeepStateForms) (bounds : IsBounds site.bounds.now) (holds : HoldsBounds members site.bounds.now) (few : length site.tables.now ≤ 64) (form : IsStateForm members st) (is_mem : IsMem mem) (is_load : IsLoad size to signed) (disp : IsDisplacement mem.disp) where
   -- by the law, where the words of the image do not matter
   by_law : (a : Address) → a ≡ address_of (equation_site site next) st mem → load_source st a size signed ≡ None
-      → known_value (equation_site site next) a size to signed ≡ known_value (calm site next) a size to signed → IsKnown site.bounds.now (load_value (equation_site site next) st a size to signed)
+      → known_value (equation_site site next) a size to signed ≡ known_value (calm site next) a size to signed → IsKnown members (load_value (equation_site site next) st a size to signed)
   by_law a at fresh same =
-      statement_known site next st (λ (d : Var). stmt.Load d size to signed mem) (plain_register (load_value (equation_site site next) st a size to signed)) kept bounds few form (λ (d : Var). (is_load, is_mem)) (λ (d : Var). disp) is
+      statement_known site next members st (λ (d : Var). stmt.Load d size to signed mem) (plain_register (load_value (equation_site site next) st a size to signed)) kept bounds holds few form (λ (d : Var). (is_load, is_mem)) (λ (d : Var). disp) is
     where
       there : a ≡ address_of (calm site next) st mem
       there = at ∙ address_calm site next st mem
@@ -173,14 +170,14 @@ module _ (site : Site) (next : ℕ) (st : Abstract) (mem : Mem) (size : ℕ) (to
           ∙ ap (λ (x : Value). write st (index_of d) None x offset.Unknown) loaded)
 
   by_word : (a : ℕ) (k : Option Value) → known_value (equation_site site next) (Image a) size to signed ≡ k → IfSome k IsSound → Image a ≡ address_of (equation_site site next) st mem
-      → IsKnown site.bounds.now (load_value (equation_site site next) st (Image a) size to signed)
+      → IsKnown members (load_value (equation_site site next) st (Image a) size to signed)
   by_word a None e sound at = by_law (Image a) at refl (e ∙ sym (known_none site next a size to signed))
   by_word a (Some v) e sound at =
-      let P : Option Value → Type 0 = λ k. IsKnown site.bounds.now (value_or k (value_or (plain_kind size to signed) value.Any)) in
-      subst P (sym e) (record { value = sound.0; offset = tt }, sound.1 site.bounds.now)
+      let P : Option Value → Type 0 = λ k. IsKnown members (value_or k (value_or (plain_kind size to signed) value.Any)) in
+      subst P (sym e) (record { value = sound.0; offset = tt }, sound.1 members)
 
   pub loaded_known : (a : Address) → a ≡ address_of (equation_site site next) st mem → load_source st a size signed ≡ None
-      → ((b : ℕ) → a ≡ Image b → IfSome (known_value (equation_site site next) a size to signed) IsSound) → IsKnown site.bounds.now (load_value (equation_site site next) st a size to signed)
+      → ((b : ℕ) → a ≡ Image b → IfSome (known_value (equation_site site next) a size to signed) IsSound) → IsKnown members (load_value (equation_site site next) st a size to signed)
   loaded_known (Image b) at fresh sound = by_word b (known_value (equation_site site next) (Image b) size to signed) refl (sound b refl) at
   loaded_known (Frame c) at fresh sound = by_law (Frame c) at fresh (known_same (equation_site site next) (calm site next) (Frame c) size to signed refl refl)
   loaded_known (Heap l h) at fresh sound = by_law (Heap l h) at fresh (known_same (equation_site site next) (calm site next) (Heap l h) size to signed refl refl)

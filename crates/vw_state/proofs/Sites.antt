@@ -1,5 +1,5 @@
 -- The bytes of a site.
-use Rattle.std.proofs.Common.{◌≡◌, ℕ, ◌≤◌, ◌+◌, List, [], length, take, drop, Bor, Option, Some, None, Result, Ok, Err, OnOk, unwrap_or, option_map, refl, sym, ◌∙◌, ap, arith}
+use Rattle.std.proofs.Common.{◌≡◌, ℕ, ◌≤◌, ◌+◌, List, [], length, take, drop, Bor, Option, Some, None, Result, Ok, Err, OnOk, OnErr, unwrap_or, option_map, refl, sym, ◌∙◌, ap, arith}
 use Rattle.std.specs.Prelude.{option_copied, ℤ, pos, ◌+ℤ◌, true, false}
 use Rattle.std.specs.Option.{option_map_or}
 use Rattle.std.proofs.lemmas.List.{length-take}
@@ -30,6 +30,10 @@ code_size image entry size = lent_size image.bytes size (file_offset image.segme
 pub on_ok : {T E P : Type 0} (r : Result T E) → P → OnOk r P
 on_ok (Ok x) p = p
 on_ok (Err e) p = tt
+
+pub on_err : {T E P : Type 0} (r : Result T E) → P → OnErr r P
+on_err (Ok x) p = tt
+on_err (Err e) p = p
 
 -- the code of a site of a function
 pub site_code : (f : Context) (site : Site) → IsSite f site → code_at site.image.now site.entry site.size ≡ code_of f

@@ -1,6 +1,6 @@
 -- What statements put into registers is in its ranges: the forms that the laws of the equations tell of say so, where the
 -- number is put into either of two registers, since a value that a register tells is forgotten in one of these alone.
-use Rattle.std.proofs.Common.{◌≡◌, ℕ, ◌+◌, ◌≤◌, ◌==◌, List, length, refl, subst, arith}
+use Rattle.std.proofs.Common.{◌≡◌, ℕ, ◌≤◌, ◌==◌, List, length, refl, subst, arith}
 use Rattle.std.specs.Prelude.{zero, suc, ℤ, pos, negsuc, Bool, true, false, if◌then◌else◌, Option, Some, None}
 use Rattle.std.proofs.lemmas.Bool.{eqb-true}
 use Rattle.vw_insn.specs.declared.registers.Reg.{Reg as GeneralRegister}
@@ -15,7 +15,6 @@ use Rattle.vw_stmt.specs.declared.operands.Var.TheVariants as var
 use Rattle.vw_stmt.specs.declared.statement.Stmt.{Stmt}
 use Rattle.vw_stmt.specs.Lifted.{IsLifted}
 use Rattle.vw_names.specs.declared.spot.Spot.TheVariants.{Reg}
-use Rattle.vw_stack.specs.declared.offset.Offset.{Offset}
 use Rattle.vw_values.specs.Bounds.{IsBounds}
 use Rattle.vw_values.specs.Stands.{register_of}
 use Rattle.vw_values.specs.Values.{IsValue, IsAmong}
@@ -24,7 +23,7 @@ use Rattle.vw_values.specs.declared.value.Value.TheVariants.{Any, TagOf}
 use Rattle.vw_domain.specs.declared.registers.Register.{Register}
 use Rattle.vw_domain.specs.Abstract.{Abstract}
 use Rattle.vw_domain.specs.Changes.{forget, write}
-use Rattle.vw_domain.specs.FormLaws.{StatementsKeepStateForms, HasDisplacement}
+use Rattle.vw_domain.specs.FormLaws.{HoldsBounds, StatementsKeepStateForms, HasDisplacement}
 use Rattle.vw_domain.specs.FormRanges.{IsStateForm}
 use Rattle.vw_domain.specs.Operands.{index_of}
 use Rattle.vw_domain.specs.Registers.{OffsetFits, IsRegister}
@@ -70,14 +69,14 @@ written_known b st known k l = (
 )
 
 -- `x` is the statement by its register
-pub statement_known : (site : Site) (next : ℕ) (st : Abstract) (x : Var → Stmt) (known : Register) → StatementsKeepStateForms → IsBounds site.bounds.now → length site.tables.now ≤ 64 → IsStateForm site.bounds.now st
+pub statement_known : (site : Site) (next : ℕ) (members : List ℕ) (st : Abstract) (x : Var → Stmt) (known : Register) → StatementsKeepStateForms → IsBounds site.bounds.now → HoldsBounds members site.bounds.now → length site.tables.now ≤ 64 → IsStateForm members st
     → ((d : Var) → IsLifted (x d)) → ((d : Var) → HasDisplacement (x d)) → ((d : Var) → apply (calm site next) (x d) st ≡ write st (index_of d) None known.value known.offset)
-    → IsRegister known × IsAmong site.bounds.now known.value
-statement_known site next st x known kept bounds few form lifted disp is =
-    written_known site.bounds.now st known (of var.Tmp) (of (var.Reg Rax))
+    → IsRegister known × IsAmong members known.value
+statement_known site next members st x known kept bounds holds few form lifted disp is =
+    written_known members st known (of var.Tmp) (of (var.Reg Rax))
   where
-    of : (d : Var) → IsStateForm site.bounds.now (write st (index_of d) None known.value known.offset)
-    of d = subst (IsStateForm site.bounds.now) (is d) (kept (calm site next) st (x d) (calm_is_site site next bounds few) form (lifted d) (disp d))
+    of : (d : Var) → IsStateForm members (write st (index_of d) None known.value known.offset)
+    of d = subst (IsStateForm members) (is d) (kept (calm site next) members st (x d) (calm_is_site site next bounds few) holds form (lifted d) (disp d))
 
 -- ---- what is put does not depend on the words of the image
 

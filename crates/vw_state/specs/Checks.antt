@@ -1,29 +1,40 @@
 -- The checks that stop the rounds: that code is at a point, and that jumps and branches stay in the function.
-use Rattle.std.specs.Prelude.{◌≡◌, ◌≤◌, ℕ, ◌+◌, ℤ, List, None, Some}
+use Rattle.std.specs.Prelude.{◌≡◌, ◌≤◌, ◌<◌, ℕ, ◌+◌, ℤ, List, Option, None, Some}
 use Rattle.vw_insn.specs.declared.instruction.Insn.{Insn}
 use Rattle.vw_stmt.specs.declared.statement.Flow.{Flow}
 use Rattle.vw_stmt.specs.declared.statement.Flow.TheVariants as flow
 use Rattle.vw_lift.specs.Lifted.{flow_of}
 use Rattle.vw_domain.specs.declared.parts.Parts.{Parts}
 use Rattle.vw_domain.specs.Abstract.{Abstract}
+use Rattle.vw_domain.specs.Addresses.{value_of}
+use Rattle.vw_domain.specs.Operands.{index_of}
+use Rattle.vw_state.specs.declared.jumps.JumpTable.{JumpTable}
 use Rattle.vw_state.specs.declared.tables.PointState.{PointState}
 use Rattle.vw_state.specs.Code.{BeginsAt, NothingAt}
 use Rattle.vw_state.specs.Context.{Context, code_of}
-use Rattle.vw_state.specs.Post.{relative_point, inside, form_behind}
+use Rattle.vw_state.specs.Post.{relative_point, inside, jump_table, entry_target, form_behind}
 use Rattle.vw_state.specs.Tables.{state_of}
 
 -- a direct jump or branch with `next` behind it goes out of the function
 abbrev pub IsOutside : Context → ℕ → ℤ → Type 0
 IsOutside f next rel = inside f.size (relative_point next rel) ≡ None
 
+-- each of a table's entries that may be taken leads to a point of the function
+abbrev pub AllInside : Context → JumpTable → Type 0
+AllInside f table = (i : ℕ) → i < table.count → entry_target f table i ≡ None → ⊥
+
+-- it is known that a jump goes through one of a table's entries, and each of these leads to a point of the function
+abbrev pub StaysInside : Context → Option JumpTable → Type 0
+StaysInside f None = ⊥
+StaysInside f (Some table) = AllInside f table
+
 -- A flow with `next` behind it may leave the function as no return or call does: a direct jump or branch goes outside,
--- or the state does not tell that a jump through a register stays inside. Tables of jumps are not followed yet, so no
--- state tells this.
+-- or the state does not tell that a jump through a register stays inside.
 abbrev pub Leaves : Context → ℕ → Abstract → Flow → Type 0
 Leaves f next st flow.Next = ⊥
 Leaves f next st (flow.Jump rel) = IsOutside f next rel
 Leaves f next st (flow.Branch cond rel) = IsOutside f next rel
-Leaves f next st (flow.JumpReg src) = Unit {0}
+Leaves f next st (flow.JumpReg src) = StaysInside f (jump_table (value_of st (index_of src))) → ⊥
 Leaves f next st (flow.Call rel) = ⊥
 Leaves f next st (flow.CallReg src) = ⊥
 Leaves f next st flow.Ret = ⊥

@@ -10,4 +10,5 @@ pub mod Checks
 pub mod Rounds
 pub mod Laws
 pub mod EdgeLaws
+pub mod RoundLaws
 pub mod Addresses

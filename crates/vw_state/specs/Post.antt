@@ -1,7 +1,7 @@
 -- The edges that leave a point of a function: where control can go from the instruction there, each with the state that
 -- it carries (SDM volume 2, "CALL", "JMP", "Jcc", "RET", "UD"; volume 1, 6.4 and 7.3.8). States are told by their
 -- abstract forms, of which each is the form of one state.
-use Rattle.std.specs.Prelude.{ℕ, ◌+◌, ◌^◌, ◌==◌, nat_lt, if◌then◌else◌, ℤ, pos, negsuc, ◌+ℤ◌, Bool, true, false, List, [], ◌∷◌, ◌++◌, drop, map, Option, Some, None}
+use Rattle.std.specs.Prelude.{ℕ, zero, suc, ◌+◌, ◌^◌, ◌==◌, nat_lt, if◌then◌else◌, ℤ, pos, negsuc, ◌+ℤ◌, Bool, true, false, List, [], ◌∷◌, ◌++◌, drop, map, Option, Some, None}
 use Rattle.std.specs.Option.{option_map_or}
 use Rattle.vw_insn.specs.declared.registers.Width.{Width}
 use Rattle.vw_insn.specs.declared.instruction.Insn.{Insn}
@@ -11,12 +11,18 @@ use Rattle.vw_stmt.specs.declared.statement.Flow.TheVariants as flow
 use Rattle.vw_lift.specs.Lifted.{steps, flow_of}
 use Rattle.vw_decode.specs.Lexing.{Found, insn_found, length_found, read}
 use Rattle.vw_layout.specs.Calls.{is_probe_stub}
+use Rattle.vw_switch.specs.Targets.{target}
+use Rattle.vw_values.specs.declared.value.Value.{Value}
+use Rattle.vw_values.specs.declared.value.Value.TheVariants as value
 use Rattle.vw_domain.specs.declared.parts.Parts.{Parts}
 use Rattle.vw_domain.specs.Abstract.{Abstract, abstract_of}
+use Rattle.vw_domain.specs.Addresses.{value_of}
 use Rattle.vw_domain.specs.Branches.{Rule, rule_at, frame_places, may_go, edge_state}
 use Rattle.vw_domain.specs.Calls.{after_call, after_probe}
+use Rattle.vw_domain.specs.Operands.{index_of}
 use Rattle.vw_domain.specs.StateOf as forms
 use Rattle.vw_domain.specs.Statements.{applies, finish}
+use Rattle.vw_state.specs.declared.jumps.JumpTable.{JumpTable}
 use Rattle.vw_state.specs.Code.{BeginsAt, NothingAt}
 use Rattle.vw_state.specs.Context.{Context, code_of, site_at}
 
@@ -44,10 +50,52 @@ called_address f next rel = address_in (pos (f.entry + next) +ℤ rel)
 abbrev pub calls_probe : Context → ℕ → ℤ → Bool
 calls_probe f next rel = option_map_or (is_probe_stub f.image) (called_address f next rel) false
 
--- The points to which a jump through a register goes with a state, in order: those that the state tells of its
--- destination. Tables of jumps are not followed yet, so none is known; check 2 fails there.
+-- ---- tables of jumps
+
+-- The table of jumps that a value tells of: the value is the destination that one of these entries names.
+abbrev pub jump_table : Value → Option JumpTable
+jump_table (value.JumpDest a k) = Some (record { base = a; count = k })
+jump_table value.Any = None
+jump_table value.Num = None
+jump_table (value.Const c) = None
+jump_table (value.Below k) = None
+jump_table (value.Low k) = None
+jump_table (value.Both k) = None
+jump_table value.HeapBase = None
+jump_table value.HeapAddr = None
+jump_table value.Globals = None
+jump_table (value.Entry r) = None
+jump_table (value.Image a) = None
+jump_table (value.Index16 k mark) = None
+jump_table (value.EntryPtr t) = None
+jump_table (value.EntryTyped t g) = None
+jump_table (value.TagOf t via) = None
+jump_table (value.TableFn t g) = None
+jump_table (value.JumpOff a k) = None
+
+-- the point to which entry i of a table leads; None: it leads out of the function, or its word is not plain
+abbrev pub entry_target : Context → JumpTable → ℕ → Option ℕ
+entry_target f table i = target f.image table.base i f.entry f.size
+
+-- a point before others, where it is there
+abbrev pub with_target : Option ℕ → List ℕ → List ℕ
+with_target None points = points
+with_target (Some point) points = point ∷ points
+
+-- the points to which so many entries of a table lead from number i on, in their order, but for those that lead to none
+abbrev pub targets_from : Context → JumpTable → ℕ → ℕ → List ℕ
+targets_from f table i zero = []
+targets_from f table i (suc more) = with_target (entry_target f table i) (targets_from f table (suc i) more)
+
+-- the points to which a table leads, in the order of its entries; no table leads to none
+abbrev pub table_targets : Context → Option JumpTable → List ℕ
+table_targets f None = []
+table_targets f (Some table) = targets_from f table 0 table.count
+
+-- The points to which a jump through a register goes with a state, in order: those to which the table leads of which the
+-- value of the register tells.
 abbrev pub destinations : Context → Var → Abstract → List ℕ
-destinations f src st = []
+destinations f src st = table_targets f (jump_table (value_of st (index_of src)))
 
 -- ---- edges, by the forms of states
 

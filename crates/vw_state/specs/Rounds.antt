@@ -1,10 +1,11 @@
 -- Rounds: a round solves the equations with the jumps through registers that the table of the round before tells of, until
 -- it tells of no more.
-use Rattle.std.specs.Prelude.{◌≡◌, ℕ, suc, ◌+◌, ◌⊎◌, List, [], ◌∷◌, Some, Contains}
+use Rattle.std.specs.Prelude.{◌≡◌, ℕ, suc, ◌+◌, ◌⊎◌, List, [], Some, Contains}
 use Rattle.vw_insn.specs.declared.instruction.Insn.{Insn}
 use Rattle.vw_stmt.specs.declared.operands.Var.{Var}
 use Rattle.vw_stmt.specs.declared.statement.Flow.TheVariants as flow
 use Rattle.vw_lift.specs.Lifted.{flow_of}
+pub use Rattle.vw_solver.specs.Seed.{AreDistinct}
 use Rattle.vw_domain.specs.declared.parts.Parts.{Parts}
 use Rattle.vw_state.specs.declared.tables.PointState.{PointState}
 use Rattle.vw_state.specs.Code.{BeginsAt}
@@ -30,16 +31,13 @@ pub record AreJumps (f : Context) (table : List PointState) (pairs : List (ℕ �
   pub only : (at to : ℕ) → Contains pairs (at, to) → JumpsTo f table at to
   pub all : (at to : ℕ) → JumpsTo f table at to → Contains pairs (at, to)
 
--- no two are the same
-abbrev pub AreDistinct : List (ℕ × ℕ) → Type 0
-AreDistinct [] = Unit {0}
-AreDistinct (pair ∷ pairs) = (Contains pairs pair → ⊥) × AreDistinct pairs
-
--- The round with a number, its pairs and its table. The first has no pairs. Another follows where no check stops the one
--- before, and its table tells of a jump that is not among its pairs; then the pairs are all that the table tells of.
+-- The round with a number, its pairs and its table. The pairs are a set: none stands twice, and their order tells nothing.
+-- The first round has none. Another follows where no check stops the one before, and its table tells of a jump that is not
+-- among its pairs; then the pairs are all that the table tells of.
 pub data IsRound (f : Context) : ℕ → List (ℕ × ℕ) → List PointState → Type 0 where
   first_round : (table : List PointState) → IsLeastWith f [] table → IsRound f 1 [] table
-  next_round : (number : ℕ) (pairs more : List (ℕ × ℕ)) (before table : List PointState) (at to : ℕ) → IsRound f number pairs before → PassesGraph f before → AreJumps f before more → AreDistinct more
+  next_round : (number : ℕ) (pairs more : List (ℕ × ℕ)) (before table : List PointState) (at to : ℕ)
+      → IsRound f number pairs before → PassesGraph f before → AreJumps f before more → AreDistinct more
       → Contains more (at, to) → (Contains pairs (at, to) → ⊥) → IsLeastWith f more table → IsRound f (suc number) more table
 
 -- a check of the graph fails at a point of the table

@@ -33,10 +33,10 @@ use vw_stmt::Operand;
 pub fn copy_register(site: &Site, state: &mut State, to: u8, from: u8) -> Result<(), OutOfMemory>
     requires to { to < 17 }
     requires from { from < 17 }
-    requires fits { Fits site.now.bounds.now state.old }
     ensures form { OnOk result (abstract_of state.new ≡ write (abstract_of state.old) to (copy_source to from)
         (value_of (abstract_of state.old) from) ((abstract_of state.old).offsets from)) }
-    ensures fits { OnOk result (Fits site.now.bounds.now state.new) }
+    ensures fits { OnOk result
+        (Fits site.now.bounds.now state.old → Fits site.now.bounds.now state.new) }
 {
     state.is_state();
     let known = state.register(from);
@@ -51,7 +51,6 @@ pub fn copy_register(site: &Site, state: &mut State, to: u8, from: u8) -> Result
 // The address of a memory operand. In the frame it lies at most 2^32 bytes from the value of rsp at the function's entry.
 fn address_at(site: &Site, next: u32, state: &State, mem: &Mem) -> Address
     requires few { length site.now.tables.now ≤ 64 }
-    requires fits { Fits site.now.bounds.now state.now }
     requires mem { IsMem mem.now }
     ensures is { address_view result ≡ address_of (equation_site site.now next) (abstract_of state.now) mem.now }
     ensures frame { (c : ℤ) → address_view result ≡ Frame c → IsWithin (2 ^ 32) c }
@@ -73,14 +72,14 @@ fn loaded(
     signed: bool,
 ) -> Register
     requires few { length site.now.tables.now ≤ 64 }
-    requires fits { Fits site.now.bounds.now state.now }
     requires mem { IsMem mem.now }
     requires load { IsLoad size to signed }
     requires at { address_view at ≡ address_of (equation_site site.now next) (abstract_of state.now) mem.now }
     requires frame { (c : ℤ) → address_view at ≡ Frame c → IsWithin (2 ^ 32) c }
     requires fresh { load_source (abstract_of state.now) (address_view at) size signed ≡ None }
     ensures is { result ≡ plain_register (load_value (equation_site site.now next) (abstract_of state.now) (address_view at) size to signed) }
-    ensures known { IsRegister result × IsAmong site.now.bounds.now result.value }
+    ensures known { IsRegister result }
+    ensures among { Fits site.now.bounds.now state.now → IsAmong site.now.bounds.now result.value }
 {
     state_form(site, state);
     let _disp = displacement(mem);
@@ -99,14 +98,14 @@ pub fn load(
 ) -> Result<(), OutOfMemory>
     requires few { length site.now.tables.now ≤ 64 }
     requires dst { dst < 17 }
-    requires fits { Fits site.now.bounds.now state.old }
     requires mem { IsMem mem.now }
     requires load { IsLoad size to signed }
     ensures form { OnOk result (abstract_of state.new ≡ write (abstract_of state.old) dst
         (load_source (abstract_of state.old) (address_of (equation_site site.now next) (abstract_of state.old) mem.now) size signed)
         (load_value (equation_site site.now next) (abstract_of state.old) (address_of (equation_site site.now next) (abstract_of state.old) mem.now) size to signed)
         Unknown) }
-    ensures fits { OnOk result (Fits site.now.bounds.now state.new) }
+    ensures fits { OnOk result
+        (Fits site.now.bounds.now state.old → Fits site.now.bounds.now state.new) }
 {
     let at = address_at(site, next, state, mem);
     match load_source(state, at, size, signed) {
@@ -131,13 +130,13 @@ pub fn store(
     src: Operand,
 ) -> Result<(), OutOfMemory>
     requires few { length site.now.tables.now ≤ 64 }
-    requires fits { Fits site.now.bounds.now state.old }
     requires mem { IsMem mem.now }
     requires size { IsWordSize size }
     ensures form { OnOk result (abstract_of state.new ≡ store_at (abstract_of state.old)
         (address_of (equation_site site.now next) (abstract_of state.old) mem.now) size (slot_size size) (stored_source size src)
         (stored_value size (operand_of (abstract_of state.old) src))) }
-    ensures fits { OnOk result (Fits site.now.bounds.now state.new) }
+    ensures fits { OnOk result
+        (Fits site.now.bounds.now state.old → Fits site.now.bounds.now state.new) }
 {
     let at = address_at(site, next, state, mem);
     let content = content_of(site, state, size, src);
@@ -154,12 +153,12 @@ pub fn overwrite(
     size: u8,
 ) -> Result<(), OutOfMemory>
     requires few { length site.now.tables.now ≤ 64 }
-    requires fits { Fits site.now.bounds.now state.old }
     requires mem { IsMem mem.now }
     requires size { IsXmmSize size }
     ensures form { OnOk result (abstract_of state.new ≡ store_at (abstract_of state.old)
         (address_of (equation_site site.now next) (abstract_of state.old) mem.now) size 0 None Any) }
-    ensures fits { OnOk result (Fits site.now.bounds.now state.new) }
+    ensures fits { OnOk result
+        (Fits site.now.bounds.now state.old → Fits site.now.bounds.now state.new) }
 {
     let at = address_at(site, next, state, mem);
     store_at(site, state, at, size, Content::Nothing)?;

@@ -1,21 +1,28 @@
-ghost use Rattle.std.specs.Prelude.{◌≡◌, ◌≤◌, [], ◌∷◌, ◌++◌, ◌↔◌, length, List, IsTrue, IfSome, IfNone, OnOk, OnErr};
+ghost use Rattle.std.specs.Prelude.{◌≡◌, ◌≤◌, ℕ, [], ◌∷◌, ◌++◌, ◌↔◌, length, List, IsTrue, IfSome, IfNone, IfOk, OnOk, OnErr};
+ghost use Rattle.vw_stmt.specs.declared.operands.Var.{Var};
+ghost use Rattle.std.specs.List.{AllByRecursion};
+ghost use Rattle.vw_insn.specs.declared.instruction.Insn.{Insn};
 ghost use Rattle.vw_insn.specs.Listed.{IsListed};
 ghost use Rattle.vw_stmt.specs.declared.statement.Flow.{Flow};
 ghost use Rattle.vw_stmt.specs.declared.statement.Stmt.{Stmt};
-ghost use Rattle.vw_lift.specs.Lifted.{flow_of};
-ghost use Rattle.vw_domain.specs.Abstract.{Abstract};
+ghost use Rattle.vw_lift.specs.Lifted.{lifted, flow_of};
+ghost use Rattle.vw_stmt.specs.Lifted.{IsLifted};
+ghost use Rattle.vw_domain.specs.Abstract.{Abstract, abstract_of};
+ghost use Rattle.vw_domain.specs.Addresses.{value_of};
+ghost use Rattle.vw_domain.specs.Operands.{index_of};
 ghost use Rattle.vw_domain.specs.State.{Fits};
 ghost use Rattle.vw_state.specs.Checks.{Leaves};
 ghost use Rattle.vw_state.specs.Code.{code_at, NothingAt, StandsAlone};
 ghost use Rattle.vw_state.specs.Context.{Context, IsSite};
-ghost use Rattle.vw_state.specs.Laws.{HasSites};
-ghost use Rattle.vw_state.specs.Post.{relative_point, inside, destinations, insn_edges, edges_at, Post};
+ghost use Rattle.vw_state.specs.Post.{relative_point, inside, jump_table, table_targets, form_behind, seconds, edges_with, edges_at, Post};
 
-use crate::Site;
 use crate::flow_edges::append_flow;
+use crate::jumps::{jump_table, stays_inside};
 use crate::laws::edges_are_post;
+use crate::registers::known_of;
 use crate::site::as_bytes;
-use crate::statements::after_stmts;
+use crate::statements::change_all;
+use crate::{JumpTable, Site};
 use std::alloc::Global;
 use vw_bits::OutOfMemory;
 use vw_decode::decode;
@@ -29,10 +36,11 @@ use vw_stmt::{Flow, Stmt};
 /// Appends to `out` the edges that leave a point of a function with a state, each with the state that it carries.
 /// Control goes on to the next instruction, also where this is the function's end; from a direct jump to its target,
 /// and from a direct branch to its target and then to the next instruction, where what was compared may be so; a target
-/// outside the function has no edge. A call goes on to the next instruction with what it leaves. UD2 and RET have no
-/// edge, nor has a jump through a register, since tables of jumps are not followed yet, nor a point where nothing decodes
-/// in the bytes up to the function's end. A site whose bytes are not in the file part of one segment has no code.
-/// OutOfMemory where the allocator refuses a request; then `out` is as it was.
+/// outside the function has no edge. A jump through a register goes to where the entries of the table lead of which the
+/// register's value tells, in their order, and has no edge where it tells of none. A call goes on to the next instruction
+/// with what it leaves. UD2 and RET have no edge, nor has a point where nothing decodes in the bytes up to the function's
+/// end. A site whose bytes are not in the file part of one segment has no code. OutOfMemory where the allocator refuses a
+/// request; then `out` is as it was.
 pub fn post(
     alloc: Global,
     site: &Site,
@@ -41,10 +49,9 @@ pub fn post(
     out: &mut Edges<State>,
 ) -> Result<(), OutOfMemory>
     requires few { length site.now.tables.now ≤ 64 }
-    requires fits { Fits site.now.bounds.now state.now }
-    ensures edges { (f : Context) → IsSite f site.now → HasSites f
+    ensures edges { (f : Context) → IsSite f site.now
         → OnOk result (out.new ≡ out.old ++ edges_at f at state.now) }
-    ensures post { (f : Context) → IsSite f site.now → HasSites f
+    ensures post { (f : Context) → IsSite f site.now
         → OnOk result (Post f at state.now (edges_at f at state.now)) }
     ensures err { OnErr result (out.new ≡ out.old) }
 {
@@ -62,42 +69,101 @@ pub fn post_of_code(
 ) -> Result<(), OutOfMemory>
     requires code { code.now ≡ code_at site.now.image.now site.now.entry site.now.size }
     requires few { length site.now.tables.now ≤ 64 }
-    requires fits { Fits site.now.bounds.now state.now }
-    ensures edges { (f : Context) → IsSite f site.now → HasSites f
+    ensures edges { (f : Context) → IsSite f site.now
         → OnOk result (out.new ≡ out.old ++ edges_at f at state.now) }
-    ensures post { (f : Context) → IsSite f site.now → HasSites f
+    ensures post { (f : Context) → IsSite f site.now
         → OnOk result (Post f at state.now (edges_at f at state.now)) }
     ensures err { OnErr result (out.new ≡ out.old) }
 {
     edges_are_post();
     let code = as_bytes(code);
-    match instruction_at(code, at) {
-        Some((insn, len)) => append_edges(alloc, site, at + len, &insn, state, out),
-        None => Ok(()),
+    let Some((insn, len)) = instruction_at(code, at) else {
+        return Ok(());
+    };
+    let next = at + len;
+    let stmts = lift(alloc, &insn, 0, 0);
+    let flow = last_flow(stmts.as_slice());
+    let mut behind = state.copy()?;
+    go_behind(site, next, stmts.as_slice(), &mut behind)?;
+    let table = table_told(flow, &behind);
+    append_flow(site, next, flow, table, behind, out)
+}
+
+/// The same, where a jump through a register at this point goes to where the entries of this table lead, whatever the
+/// value of the register tells, and to none where there is no table.
+pub fn post_with(
+    alloc: Global,
+    site: &Site,
+    code: &[u8],
+    at: u32,
+    table: Option<JumpTable>,
+    state: &State,
+    out: &mut Edges<State>,
+) -> Result<(), OutOfMemory>
+    requires code { code.now ≡ code_at site.now.image.now site.now.entry site.now.size }
+    requires few { length site.now.tables.now ≤ 64 }
+    ensures edges { (f : Context) (pairs : List (ℕ × ℕ)) → IsSite f site.now
+        → seconds at pairs ≡ table_targets f table
+        → OnOk result (out.new ≡ out.old ++ edges_with f pairs at state.now) }
+    ensures err { OnErr result (out.new ≡ out.old) }
+{
+    edges_are_post();
+    let code = as_bytes(code);
+    let Some((insn, len)) = instruction_at(code, at) else {
+        return Ok(());
+    };
+    let next = at + len;
+    let stmts = lift(alloc, &insn, 0, 0);
+    let flow = last_flow(stmts.as_slice());
+    let mut behind = state.copy()?;
+    go_behind(site, next, stmts.as_slice(), &mut behind)?;
+    append_flow(site, next, flow, table, behind, out)
+}
+
+// The table of jumps of which the register of a jump tells, with the state behind the other statements.
+fn table_told(flow: Flow, behind: &State) -> Option<JumpTable>
+    ensures { (src : Var) → flow ≡ Flow.JumpReg src
+        → result ≡ jump_table (value_of (abstract_of behind.now) (index_of src)) }
+{
+    match flow {
+        Flow::JumpReg { src } => jump_table(known_of(behind, src).value),
+        _ => None,
     }
 }
 
-// Appends the edges of an instruction with `next` behind it, from a state.
-fn append_edges(
+/// The state behind the statements of an instruction with `next` behind it, but for its transfer of control.
+/// OutOfMemory where the allocator refuses a request.
+pub fn state_behind(
     alloc: Global,
     site: &Site,
     next: u32,
     insn: &Insn,
     state: &State,
-    out: &mut Edges<State>,
-) -> Result<(), OutOfMemory>
+) -> Result<State, OutOfMemory>
     requires few { length site.now.tables.now ≤ 64 }
     requires listed { IsListed insn.now }
-    requires fits { Fits site.now.bounds.now state.now }
-    ensures ok { (f : Context) → IsSite f site.now → OnOk result
-        (out.new ≡ out.old ++ insn_edges f (destinations f) next state.now insn.now) }
-    ensures err { OnErr result (out.new ≡ out.old) }
+    ensures form { IfOk result (λ behind. (f : Context) → IsSite f site.now
+        → abstract_of behind ≡ form_behind f next insn.now state.now) }
+    ensures fits { IfOk result
+        (λ behind. Fits site.now.bounds.now state.now → Fits site.now.bounds.now behind) }
 {
     let stmts = lift(alloc, insn, 0, 0);
-    let flow = last_flow(stmts.as_slice());
-    let copy = state.copy()?;
-    let after = after_stmts(site, next, stmts.as_slice(), copy)?;
-    append_flow(site, next, flow, after, out)
+    let mut behind = state.copy()?;
+    go_behind(site, next, stmts.as_slice(), &mut behind)?;
+    Ok(behind)
+}
+
+// Changes a state as the statements of an instruction with `next` behind it do, but for its transfer of control. Nothing
+// is promised where memory is refused.
+fn go_behind(site: &Site, next: u32, stmts: &[Stmt], state: &mut State) -> Result<(), OutOfMemory>
+    requires few { length site.now.tables.now ≤ 64 }
+    requires lifted { AllByRecursion IsLifted stmts.now }
+    ensures form { (f : Context) (i : Insn) → IsSite f site.now → stmts.now ≡ lifted i
+        → OnOk result (abstract_of state.new ≡ form_behind f next i state.old) }
+    ensures fits { OnOk result
+        (Fits site.now.bounds.now state.old → Fits site.now.bounds.now state.new) }
+{
+    change_all(site, next, stmts, state)
 }
 
 /// The instruction that begins at a point of a function's code, and how many bytes it has. None exactly where
@@ -157,17 +223,37 @@ pub fn direct_target(size: u32, next: u32, rel: i32) -> Option<u32>
     }
 }
 
-/// Whether a flow with `next` behind it may leave a function of `size` bytes otherwise than by a return or a call: a
-/// direct jump or branch whose target is outside, or a jump through a register, since tables of jumps are not followed
-/// yet. Takes no memory.
-pub fn leaves_function(size: u32, next: u32, flow: Flow) -> bool
+/// Whether a flow with `next` behind it, but for a jump through a register, leaves a function of `size` bytes otherwise
+/// than by a return or a call: a direct jump or branch whose target is outside. Takes no memory.
+pub fn leaves_directly(size: u32, next: u32, flow: Flow) -> bool
     ensures { (f : Context) (st : Abstract) → f.size ≡ size
+        → ((src : Var) → flow ≡ Flow.JumpReg src → ⊥)
         → (IsTrue result ↔ Leaves f next st flow) }
 {
     match flow {
         Flow::Jump { rel } => direct_target(size, next, rel).is_none(),
         Flow::Branch { rel, .. } => direct_target(size, next, rel).is_none(),
-        Flow::JumpReg { .. } => true,
-        Flow::Next | Flow::Call { .. } | Flow::CallReg { .. } | Flow::Ret | Flow::Stop => false,
+        Flow::Next
+        | Flow::JumpReg { .. }
+        | Flow::Call { .. }
+        | Flow::CallReg { .. }
+        | Flow::Ret
+        | Flow::Stop => false,
+    }
+}
+
+/// Whether a flow with `next` behind it may leave the function otherwise than by a return or a call, with the state
+/// behind the other statements: a direct jump or branch whose target is outside, or a jump through a register of whose
+/// value it is not known that it stays inside. Takes no memory.
+pub fn leaves_function(site: &Site, next: u32, flow: Flow, state: &State) -> bool
+    ensures { (f : Context) → IsSite f site.now
+        → (IsTrue result ↔ Leaves f next (abstract_of state.now) flow) }
+{
+    match flow {
+        Flow::JumpReg { src } => match jump_table(known_of(state, src).value) {
+            Some(table) => !stays_inside(site, table),
+            None => true,
+        },
+        _ => leaves_directly(site.size, next, flow),
     }
 }

@@ -29,10 +29,10 @@ fn compare_number(
 ) -> Result<(), OutOfMemory>
     requires register { a < 17 }
     requires wide { IsWide width }
-    requires fits { Fits site.now.bounds.now state.old }
     ensures form { OnOk result (abstract_of state.new
         ≡ compared_with (abstract_of state.old) width a (Value.Const number)) }
-    ensures fits { OnOk result (Fits site.now.bounds.now state.new) }
+    ensures fits { OnOk result
+        (Fits site.now.bounds.now state.old → Fits site.now.bounds.now state.new) }
 {
     match width {
         Width::W32 => {
@@ -57,10 +57,10 @@ fn compare(
 ) -> Result<(), OutOfMemory>
     requires register { a < 17 }
     requires wide { IsWide width }
-    requires fits { Fits site.now.bounds.now state.old }
     ensures form { OnOk result (abstract_of state.new
         ≡ compared_with (abstract_of state.old) width a value) }
-    ensures fits { OnOk result (Fits site.now.bounds.now state.new) }
+    ensures fits { OnOk result
+        (Fits site.now.bounds.now state.old → Fits site.now.bounds.now state.new) }
 {
     match value {
         Value::Const(number) => compare_number(site, state, width, a, number),
@@ -74,10 +74,10 @@ fn compare(
 // Sets the flags as a comparison does, or to any where there is none.
 pub fn set_flags(site: &Site, state: &mut State, fact: Option<Compare>) -> Result<(), OutOfMemory>
     requires lifted { IsFact fact }
-    requires fits { Fits site.now.bounds.now state.old }
     ensures form { OnOk result (abstract_of state.new
         ≡ flags_after (abstract_of state.old) fact) }
-    ensures fits { OnOk result (Fits site.now.bounds.now state.new) }
+    ensures fits { OnOk result
+        (Fits site.now.bounds.now state.old → Fits site.now.bounds.now state.new) }
 {
     match fact {
         None => {

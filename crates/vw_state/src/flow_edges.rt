@@ -1,23 +1,24 @@
 //! The edges of a flow, each with the state that it carries.
 
-ghost use Rattle.std.specs.Prelude.{◌≡◌, ◌≤◌, ℕ, List, ◌∷◌, [], ◌++◌, map, length, Option, Some, IfSome, OnOk, OnErr};
+ghost use Rattle.std.specs.Prelude.{◌≡◌, ℕ, List, ◌∷◌, [], ◌++◌, map, take, length, Option, Some, IfSome, OnOk, OnErr};
 ghost use Rattle.vw_insn.specs.declared.registers.Width.{Width};
+ghost use Rattle.vw_stmt.specs.declared.operands.Var.{Var};
 ghost use Rattle.vw_stmt.specs.declared.statement.Flow.{Flow};
 ghost use Rattle.vw_domain.specs.Abstract.{Abstract, abstract_of};
 ghost use Rattle.vw_domain.specs.Branches.{Rule};
 ghost use Rattle.vw_domain.specs.Calls.{after_call};
 ghost use Rattle.vw_domain.specs.Refines.{IsComparison};
-ghost use Rattle.vw_domain.specs.State.{Fits};
 ghost use Rattle.vw_domain.specs.StateOf.{state_of};
 ghost use Rattle.vw_domain.specs.Statements.{finish};
 ghost use Rattle.vw_state.specs.Context.{Context, IsSite};
 ghost use Rattle.vw_state.specs.Edges.{Tells};
-ghost use Rattle.vw_state.specs.Post.{destinations, edge_to, branch_edge, after_direct, flow_forms, with_state};
+ghost use Rattle.vw_state.specs.Post.{entry_target, with_target, table_targets, edge_to, carry, branch_edge, after_direct, flow_forms, with_state};
 
-use crate::Site;
 use crate::branch_rules::told_at;
 use crate::edges::direct_target;
+use crate::jumps::entry_target;
 use crate::probe_calls::calls_probe;
+use crate::{JumpTable, Site};
 use vw_bits::OutOfMemory;
 use vw_domain::{
     Comparison, State, edges_are_decided, forms_tell_states, frame_holds_places, states_have_forms,
@@ -29,7 +30,7 @@ use vw_stmt::Flow;
 
 // Appends an edge to a point. The state that it carries is the one of its form.
 fn append(to: u32, state: State, out: &mut Edges<State>) -> Result<(), OutOfMemory>
-    ensures ok { (bounds : List ℕ) (form : Abstract) → Fits bounds state → abstract_of state ≡ form
+    ensures ok { (form : Abstract) → abstract_of state ≡ form
         → OnOk result (out.new ≡ out.old ++ (to, state_of form) ∷ []) }
     ensures err { OnErr result (out.new ≡ out.old) }
 {
@@ -45,8 +46,8 @@ fn append_behind(
     mut state: State,
     out: &mut Edges<State>,
 ) -> Result<(), OutOfMemory>
-    ensures ok { (bounds : List ℕ) → Fits bounds state
-        → OnOk result (out.new ≡ out.old ++ map with_state (edge_to to (finish (abstract_of state)))) }
+    ensures ok { OnOk result
+        (out.new ≡ out.old ++ map with_state (edge_to to (finish (abstract_of state)))) }
     ensures err { OnErr result (out.new ≡ out.old) }
 {
     match to {
@@ -60,8 +61,8 @@ fn append_behind(
 
 // Appends the edge behind a call of a function.
 fn append_after_call(next: u32, mut state: State, out: &mut Edges<State>) -> Result<(), OutOfMemory>
-    ensures ok { (bounds : List ℕ) → Fits bounds state
-        → OnOk result (out.new ≡ out.old ++ (next, state_of (after_call (abstract_of state))) ∷ []) }
+    ensures ok { OnOk result
+        (out.new ≡ out.old ++ (next, state_of (after_call (abstract_of state))) ∷ []) }
     ensures err { OnErr result (out.new ≡ out.old) }
 {
     state.call()?;
@@ -76,7 +77,6 @@ fn append_after_direct(
     mut state: State,
     out: &mut Edges<State>,
 ) -> Result<(), OutOfMemory>
-    requires fits { Fits site.now.bounds.now state }
     ensures ok { (f : Context) → IsSite f site.now → OnOk result
         (out.new ≡ out.old ++ (next, state_of (after_direct f next rel (abstract_of state))) ∷ []) }
     ensures err { OnErr result (out.new ≡ out.old) }
@@ -98,7 +98,6 @@ fn append_edge(
     out: &mut Edges<State>,
 ) -> Result<(), OutOfMemory>
     requires told { IfSome told IsComparison }
-    requires fits { Fits site.now.bounds.now state }
     ensures ok { (f : Context) (next : ℕ) (rule : Option (Width × Rule)) → IsSite f site.now → Tells told rule
         → OnOk result (out.new ≡ out.old ++ map with_state (branch_edge f next (abstract_of state) rule to)) }
     ensures err { OnErr result (out.new ≡ out.old) }
@@ -132,10 +131,9 @@ fn append_branch(
     mut state: State,
     out: &mut Edges<State>,
 ) -> Result<(), OutOfMemory>
-    requires fits { Fits site.now.bounds.now state }
-    ensures ok { (f : Context) → IsSite f site.now → OnOk result
+    ensures ok { (f : Context) (targets : Var → Abstract → List ℕ) → IsSite f site.now → OnOk result
         (out.new ≡ out.old ++ map with_state
-        (flow_forms f (destinations f) next (abstract_of state) (Flow.Branch cond rel))) }
+        (flow_forms f targets next (abstract_of state) (Flow.Branch cond rel))) }
     ensures err { OnErr result (out.new ≡ out.old) }
 {
     state.finish();
@@ -156,18 +154,81 @@ fn append_branch(
     }
 }
 
-// Appends the edges of a flow with `next` behind it, with the state after the statements before it.
+// Appends the edge to the point to which entry `i` of a table leads, where it leads to one, with a copy of the state.
+fn append_entry(
+    site: &Site,
+    table: JumpTable,
+    i: u64,
+    state: &State,
+    out: &mut Edges<State>,
+) -> Result<(), OutOfMemory>
+    ensures ok { (f : Context) → IsSite f site.now → OnOk result (out.new
+        ≡ out.old ++ map with_state (carry (with_target (entry_target f table i) []) (abstract_of state.now))) }
+    ensures err { OnErr result (out.new ≡ out.old) }
+{
+    match entry_target(site, table, i) {
+        Some(point) => append(point, state.copy()?, out),
+        None => Ok(()),
+    }
+}
+
+// Appends the edges to the points to which the entries of a table lead, in their order. Where memory is refused, some of
+// them are appended.
+fn append_entries(
+    site: &Site,
+    table: JumpTable,
+    state: &State,
+    out: &mut Edges<State>,
+) -> Result<(), OutOfMemory>
+    ensures ok { (f : Context) → IsSite f site.now → OnOk result (out.new
+        ≡ out.old ++ map with_state (carry (table_targets f (Some table)) (abstract_of state.now))) }
+    ensures err { OnErr result (take (length out.old) out.new ≡ out.old) }
+{
+    for i in 0..table.count {
+        append_entry(site, table, i, state, out)?;
+    }
+    Ok(())
+}
+
+// Appends the edges of a jump through a register, to the points to which the entries of the table lead.
+fn append_jumps(
+    site: &Site,
+    table: Option<JumpTable>,
+    mut state: State,
+    out: &mut Edges<State>,
+) -> Result<(), OutOfMemory>
+    ensures ok { (f : Context) → IsSite f site.now → OnOk result (out.new
+        ≡ out.old ++ map with_state (carry (table_targets f table) (finish (abstract_of state)))) }
+    ensures err { OnErr result (out.new ≡ out.old) }
+{
+    let Some(table) = table else {
+        return Ok(());
+    };
+    state.finish();
+    let before = out.as_slice().len();
+    match append_entries(site, table, &state, out) {
+        Ok(()) => Ok(()),
+        Err(error) => {
+            out.truncate(before);
+            Err(error)
+        }
+    }
+}
+
+// Appends the edges of a flow with `next` behind it, with the state after the statements before it. A jump through a
+// register goes to where the entries of the table lead.
 pub fn append_flow(
     site: &Site,
     next: u32,
     flow: Flow,
+    table: Option<JumpTable>,
     state: State,
     out: &mut Edges<State>,
 ) -> Result<(), OutOfMemory>
-    requires fits { Fits site.now.bounds.now state }
-    ensures ok { (f : Context) → IsSite f site.now → OnOk result
-        (out.new ≡ out.old ++ map with_state
-        (flow_forms f (destinations f) next (abstract_of state) flow)) }
+    ensures ok { (f : Context) (targets : Var → Abstract → List ℕ) → IsSite f site.now
+        → ((src : Var) → flow ≡ Flow.JumpReg src → targets src (abstract_of state) ≡ table_targets f table)
+        → OnOk result (out.new ≡ out.old ++ map with_state
+        (flow_forms f targets next (abstract_of state) flow)) }
     ensures err { OnErr result (out.new ≡ out.old) }
 {
     match flow {
@@ -176,6 +237,7 @@ pub fn append_flow(
         Flow::Branch { cond, rel } => append_branch(site, next, cond, rel, state, out),
         Flow::Call { rel } => append_after_direct(site, next, rel, state, out),
         Flow::CallReg { .. } => append_after_call(next, state, out),
-        Flow::JumpReg { .. } | Flow::Ret | Flow::Stop => Ok(()),
+        Flow::JumpReg { .. } => append_jumps(site, table, state, out),
+        Flow::Ret | Flow::Stop => Ok(()),
     }
 }

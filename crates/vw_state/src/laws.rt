@@ -15,14 +15,11 @@ ghost use Rattle.vw_rows.specs.Numbers.{IsBytes};
 ghost use Rattle.vw_stmt.specs.declared.operands.Var.{Var};
 ghost use Rattle.vw_domain.specs.declared.parts.Parts.{Parts};
 ghost use Rattle.vw_domain.specs.Abstract.{Abstract};
-ghost use Rattle.vw_state.specs.declared.tables.PointState.{PointState};
 ghost use Rattle.vw_state.specs.Code.{code_at, BeginsAt};
 ghost use Rattle.vw_state.specs.Context.{Context, code_of, context_of, lengths_of};
 ghost use Rattle.vw_state.specs.EdgeLaws.{EdgeLaws};
 ghost use Rattle.vw_state.specs.Laws.{HasSites, EdgesRise, EdgesAreValid, EdgesGrow};
 ghost use Rattle.vw_state.specs.Post.{PostBy, edges_by};
-ghost use Rattle.vw_state.specs.Rounds.{AreJumps, IsRound, IsLeast};
-ghost use Rattle.vw_state.specs.Solution.{IsLeastWith};
 
 use crate::site::as_bytes;
 use vw_decode::read_is_spelling;
@@ -47,7 +44,7 @@ pub fn edges_are_post()
 }
 
 // The laws on which those of the edges rest.
-fn laws_of_edges()
+pub(crate) fn laws_of_edges()
     ensures { EdgeLaws }
 {
     spelled_is_listed();
@@ -125,20 +122,6 @@ pub fn code_has_its_size()
 /// From an entry no more bytes of code are taken than are asked for.
 pub fn code_is_short()
     ensures { (image : Contents) (entry size : ℕ) → length (code_at image entry size) ≤ size }
-{}
-
-/// A function has one least table.
-pub fn least_tables_are_one()
-    ensures { (f : Context) (table other : List PointState)
-        → IsLeast f table → IsLeast f other → table ≡ other }
-{}
-
-/// Tables of jumps are not followed yet: so there is one round, and its table is the least without jumps through
-/// registers, as is each table that a definition calls one of a round.
-pub fn one_round()
-    ensures rounds { (f : Context) (number : ℕ) (pairs : List (ℕ × ℕ)) (table : List PointState)
-        → IsRound f number pairs table → IsLeastWith f [] table }
-    ensures jumps { (f : Context) (table : List PointState) → AreJumps f table [] }
 {}
 
 /// The statements of an instruction that is spelled have the fields that such statements can have, and displacements of

@@ -1,7 +1,7 @@
 use vw_values::Via;
 
 /// What is known of an address. Distances are in bytes; tables are counted from 0.
-#[derive(Clone, Copy, Debug, PartialEq, Eq)]
+#[derive(Clone, Copy, PartialEq, Eq)]
 pub enum Address {
     /// This distance from the value of rsp at the function's entry.
     Frame(i64),

@@ -1,6 +1,6 @@
 //! The statements that put numbers into registers.
 
-ghost use Rattle.std.specs.Prelude.{◌≡◌, ◌≤◌, ◌<◌, ◌^◌, ℕ, length, OnOk};
+ghost use Rattle.std.specs.Prelude.{◌≡◌, ◌≤◌, ◌<◌, ◌^◌, ℕ, List, length, OnOk};
 ghost use Rattle.vw_values.specs.Bounds.{IsBounds};
 ghost use Rattle.vw_values.specs.Masks.{and};
 ghost use Rattle.vw_values.specs.Narrowing.{narrow, any_number};
@@ -11,7 +11,7 @@ ghost use Rattle.vw_stmt.specs.declared.statement.Stmt.{Stmt};
 ghost use Rattle.vw_stmt.specs.Lifted.{IsLifted};
 ghost use Rattle.vw_domain.specs.Abstract.{abstract_of};
 ghost use Rattle.vw_domain.specs.Addresses.{value_of};
-ghost use Rattle.vw_domain.specs.FormLaws.{StatementsKeepStateForms};
+ghost use Rattle.vw_domain.specs.FormLaws.{HoldsBounds, StatementsKeepStateForms};
 ghost use Rattle.vw_domain.specs.FormRanges.{IsStateForm};
 ghost use Rattle.vw_domain.specs.Operands.{index_of, operand_of, operand_offset};
 ghost use Rattle.vw_domain.specs.Registers.{IsRegister};
@@ -29,12 +29,14 @@ use vw_domain::{Register, State, state_forms_are_kept, states_have_forms};
 use vw_insn::{Mem, Width};
 use vw_names::Spot;
 use vw_stmt::{Operand, Var};
-use vw_values::{Value, and, multiples_are_sound, narrow, shl4};
+use vw_values::{Value, and, narrow, shl4};
 
-// The form of a state whose values name bounds of the site, and what statements make of such forms.
+// The form of a state, with whatever bounds its values name, and with some that hold those of the site; and what
+// statements make of such forms.
 pub fn state_form(site: &Site, state: &State)
-    requires { Fits site.now.bounds.now state.now }
-    ensures form { IsStateForm site.now.bounds.now (abstract_of state.now) }
+    ensures form { (b : List ℕ) → Fits b state.now → IsStateForm b (abstract_of state.now) }
+    ensures more { (members : List ℕ) × HoldsBounds members site.now.bounds.now
+        × IsStateForm members (abstract_of state.now) }
     ensures bounds { IsBounds site.now.bounds.now }
     ensures kept { StatementsKeepStateForms }
 {
@@ -55,10 +57,10 @@ pub fn narrowed(
     signed: bool,
 ) -> Register
     requires few { length site.now.tables.now ≤ 64 }
-    requires fits { Fits site.now.bounds.now state.now }
     requires lifted { IsLifted (Stmt.Narrow src src from to signed) }
     ensures is { result ≡ plain_register (narrow (value_of (abstract_of state.now) (index_of src)) from to signed) }
-    ensures known { IsRegister result × IsAmong site.now.bounds.now result.value }
+    ensures known { IsRegister result }
+    ensures among { Fits site.now.bounds.now state.now → IsAmong site.now.bounds.now result.value }
 {
     state_form(site, state);
     plain(narrow(known_of(state, src).value, from, to, signed))
@@ -66,12 +68,12 @@ pub fn narrowed(
 
 pub fn summed(site: &Site, state: &State, a: Var, b: Operand, minus: bool) -> Register
     requires few { length site.now.tables.now ≤ 64 }
-    requires fits { Fits site.now.bounds.now state.now }
     ensures is { (next : ℕ) → result ≡ record {
       offset = moved minus ((abstract_of state.now).offsets (index_of a)) (operand_of (abstract_of state.now) b);
       value = sum_value (equation_site site.now next) minus (value_of (abstract_of state.now) (index_of a)) (operand_of (abstract_of state.now) b);
     } }
-    ensures known { IsRegister result × IsAmong site.now.bounds.now result.value }
+    ensures known { IsRegister result }
+    ensures among { Fits site.now.bounds.now state.now → IsAmong site.now.bounds.now result.value }
 {
     state_form(site, state);
     let left = known_of(state, a);
@@ -84,13 +86,13 @@ pub fn summed(site: &Site, state: &State, a: Var, b: Operand, minus: bool) -> Re
 
 pub fn address_known(site: &Site, next: u32, state: &State, mem: &Mem) -> Register
     requires few { length site.now.tables.now ≤ 64 }
-    requires fits { Fits site.now.bounds.now state.now }
     requires mem { IsMem mem.now }
     ensures is { result ≡ record {
       offset = lea_offset (abstract_of state.now) mem.now;
       value = lea_value (equation_site site.now next) (abstract_of state.now) mem.now;
     } }
-    ensures known { IsRegister result × IsAmong site.now.bounds.now result.value }
+    ensures known { IsRegister result }
+    ensures among { Fits site.now.bounds.now state.now → IsAmong site.now.bounds.now result.value }
 {
     state_form(site, state);
     let _disp = displacement(mem);
@@ -102,10 +104,10 @@ pub fn address_known(site: &Site, next: u32, state: &State, mem: &Mem) -> Regist
 
 pub fn masked(site: &Site, state: &State, width: Width, a: Var, b: Operand) -> Register
     requires few { length site.now.tables.now ≤ 64 }
-    requires fits { Fits site.now.bounds.now state.now }
     requires lifted { IsLifted (Stmt.And a width a b) }
     ensures is { result ≡ plain_register (and (value_of (abstract_of state.now) (index_of a)) (operand_of (abstract_of state.now) b) width site.now.bounds.now) }
-    ensures known { IsRegister result × IsAmong site.now.bounds.now result.value }
+    ensures known { IsRegister result }
+    ensures among { Fits site.now.bounds.now state.now → IsAmong site.now.bounds.now result.value }
 {
     state_form(site, state);
     let left = known_of(state, a).value;
@@ -114,20 +116,19 @@ pub fn masked(site: &Site, state: &State, width: Width, a: Var, b: Operand) -> R
 }
 
 pub fn shifted(site: &Site, state: &State, dst: Var) -> Register
-    requires fits { Fits site.now.bounds.now state.now }
     ensures is { result ≡ plain_register (shl4 (value_of (abstract_of state.now) (index_of dst)) site.now.bounds.now) }
-    ensures known { IsRegister result × IsAmong site.now.bounds.now result.value }
+    ensures known { IsRegister result }
+    ensures among { Fits site.now.bounds.now state.now → IsAmong site.now.bounds.now result.value }
 {
     state_form(site, state);
-    multiples_are_sound();
     plain(shl4(known_of(state, dst).value, site.bounds))
 }
 
 pub fn opened(site: &Site, state: &State, width: Width) -> Register
     requires few { length site.now.tables.now ≤ 64 }
-    requires fits { Fits site.now.bounds.now state.now }
     ensures is { result ≡ plain_register (any_number width) }
-    ensures known { IsRegister result × IsAmong site.now.bounds.now result.value }
+    ensures known { IsRegister result }
+    ensures among { Fits site.now.bounds.now state.now → IsAmong site.now.bounds.now result.value }
 {
     state_form(site, state);
     plain(any_number(width))
@@ -135,13 +136,13 @@ pub fn opened(site: &Site, state: &State, width: Width) -> Register
 
 pub fn chosen(site: &Site, state: &State, width: Width, a: Var, b: Operand) -> Register
     requires few { length site.now.tables.now ≤ 64 }
-    requires fits { Fits site.now.bounds.now state.now }
     requires lifted { IsLifted (Stmt.Choose a width a b) }
     ensures is { (next : ℕ) → result ≡ record {
       offset = chosen_offset width ((abstract_of state.now).offsets (index_of a)) (operand_offset (abstract_of state.now) b);
       value = chosen_value (equation_site site.now next) width (value_of (abstract_of state.now) (index_of a)) (operand_of (abstract_of state.now) b);
     } }
-    ensures known { IsRegister result × IsAmong site.now.bounds.now result.value }
+    ensures known { IsRegister result }
+    ensures among { Fits site.now.bounds.now state.now → IsAmong site.now.bounds.now result.value }
 {
     state_form(site, state);
     let left = known_of(state, a);

@@ -25,10 +25,10 @@ use vw_values::Value;
 fn change(site: &Site, next: u32, stmt: &Stmt, state: &mut State) -> Result<(), OutOfMemory>
     requires few { length site.now.tables.now ≤ 64 }
     requires lifted { IsLifted stmt.now }
-    requires fits { Fits site.now.bounds.now state.old }
     ensures form { OnOk result (abstract_of state.new
         ≡ apply (equation_site site.now next) stmt.now (abstract_of state.old)) }
-    ensures fits { OnOk result (Fits site.now.bounds.now state.new) }
+    ensures fits { OnOk result
+        (Fits site.now.bounds.now state.old → Fits site.now.bounds.now state.new) }
 {
     match *stmt {
         Stmt::Set { dst, c } => {
@@ -110,13 +110,18 @@ fn change(site: &Site, next: u32, stmt: &Stmt, state: &mut State) -> Result<(), 
 }
 
 // Changes a state as several statements do, one after another. Nothing is promised where memory is refused.
-fn change_all(site: &Site, next: u32, stmts: &[Stmt], state: &mut State) -> Result<(), OutOfMemory>
+pub fn change_all(
+    site: &Site,
+    next: u32,
+    stmts: &[Stmt],
+    state: &mut State,
+) -> Result<(), OutOfMemory>
     requires few { length site.now.tables.now ≤ 64 }
     requires lifted { AllByRecursion IsLifted stmts.now }
-    requires fits { Fits site.now.bounds.now state.old }
     ensures form { OnOk result (abstract_of state.new
         ≡ applies (equation_site site.now next) stmts.now (abstract_of state.old)) }
-    ensures fits { OnOk result (Fits site.now.bounds.now state.new) }
+    ensures fits { OnOk result
+        (Fits site.now.bounds.now state.old → Fits site.now.bounds.now state.new) }
 {
     for stmt in stmts {
         change(site, next, stmt, state)?;
@@ -129,10 +134,10 @@ fn change_all(site: &Site, next: u32, stmts: &[Stmt], state: &mut State) -> Resu
 pub fn after_stmt(site: &Site, next: u32, stmt: &Stmt, state: State) -> Result<State, OutOfMemory>
     requires few { length site.now.tables.now ≤ 64 }
     requires lifted { IsLifted stmt.now }
-    requires fits { Fits site.now.bounds.now state }
     ensures form { IfOk result (λ after. (f : Context) → IsSite f site.now
         → abstract_of after ≡ apply (site_at f next) stmt.now (abstract_of state)) }
-    ensures fits { IfOk result (λ after. Fits site.now.bounds.now after) }
+    ensures fits { IfOk result
+        (λ after. Fits site.now.bounds.now state → Fits site.now.bounds.now after) }
 {
     let mut after = state;
     change(site, next, stmt, &mut after)?;
@@ -149,10 +154,10 @@ pub fn after_stmts(
 ) -> Result<State, OutOfMemory>
     requires few { length site.now.tables.now ≤ 64 }
     requires lifted { AllByRecursion IsLifted stmts.now }
-    requires fits { Fits site.now.bounds.now state }
     ensures form { IfOk result (λ after. (f : Context) → IsSite f site.now
         → abstract_of after ≡ applies (site_at f next) stmts.now (abstract_of state)) }
-    ensures fits { IfOk result (λ after. Fits site.now.bounds.now after) }
+    ensures fits { IfOk result
+        (λ after. Fits site.now.bounds.now state → Fits site.now.bounds.now after) }
 {
     let mut after = state;
     change_all(site, next, stmts, &mut after)?;
@@ -164,10 +169,9 @@ pub fn after_stmts(
 pub fn apply(site: &Site, next: u32, stmts: &[Stmt], state: &mut State) -> Result<(), OutOfMemory>
     requires few { length site.now.tables.now ≤ 64 }
     requires lifted { AllByRecursion IsLifted stmts.now }
-    requires fits { Fits site.now.bounds.now state.old }
     ensures ok { OnOk result ((f : Context) → IsSite f site.now
         → abstract_of state.new ≡ applies (site_at f next) stmts.now (abstract_of state.old)) }
-    ensures fits { Fits site.now.bounds.now state.new }
+    ensures fits { Fits site.now.bounds.now state.old → Fits site.now.bounds.now state.new }
     ensures err { OnErr result (state.new ≡ state.old) }
 {
     let mut after = state.copy()?;
@@ -187,7 +191,6 @@ pub fn value_after(
 ) -> Result<Value, OutOfMemory>
     requires few { length site.now.tables.now ≤ 64 }
     requires lifted { AllByRecursion IsLifted stmts.now }
-    requires fits { Fits site.now.bounds.now state.now }
     ensures { IfOk result (λ value. (f : Context) → IsSite f site.now
         → value ≡ value_of (applies (site_at f next) stmts.now (abstract_of state.now)) (index_of var)) }
 {

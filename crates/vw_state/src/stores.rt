@@ -32,12 +32,11 @@ pub fn store_at(
     requires frame { (c : ℤ) → address_view at ≡ Frame c → IsWithin (2 ^ 32) c }
     requires some { 0 < count }
     requires content { IsContent content }
-    requires among { IsContentAmong site.now.bounds.now content }
-    requires fits { Fits site.now.bounds.now state.old }
     ensures form { OnOk result ((v : Value) → abstract_of state.new
         ≡ store_at (abstract_of state.old) (address_view at) count
         (content_size content) (content_source content) (content_value v content)) }
-    ensures fits { OnOk result (Fits site.now.bounds.now state.new) }
+    ensures fits { OnOk result (Fits site.now.bounds.now state.old
+        → IsContentAmong site.now.bounds.now content → Fits site.now.bounds.now state.new) }
 {
     match at {
         Address::Frame(offset) => {
@@ -72,10 +71,10 @@ fn whole_content(src: Operand) -> Content
 
 // The content of four bytes.
 fn half_content(site: &Site, state: &State, src: Operand) -> Content
-    requires { Fits site.now.bounds.now state.now }
     ensures is { result ≡ Content.Narrow (narrow32 (operand_of (abstract_of state.now) src)) }
     ensures content { IsContent result }
-    ensures among { IsContentAmong site.now.bounds.now result }
+    ensures among { Fits site.now.bounds.now state.now
+        → IsContentAmong site.now.bounds.now result }
 {
     state_form(site, state);
     low_bits_are_sound();
@@ -85,13 +84,13 @@ fn half_content(site: &Site, state: &State, src: Operand) -> Content
 // What is known of bytes that are written from an operand.
 pub fn content_of(site: &Site, state: &State, size: u8, src: Operand) -> Content
     requires size { IsWordSize size }
-    requires fits { Fits site.now.bounds.now state.now }
     ensures size { content_size result ≡ slot_size size }
     ensures source { content_source result ≡ stored_source size src }
     ensures value { content_value (stored_value size (operand_of (abstract_of state.now) src)) result
         ≡ stored_value size (operand_of (abstract_of state.now) src) }
     ensures content { IsContent result }
-    ensures among { IsContentAmong site.now.bounds.now result }
+    ensures among { Fits site.now.bounds.now state.now
+        → IsContentAmong site.now.bounds.now result }
 {
     if size == 8 {
         whole_content(src)

@@ -1,12 +1,16 @@
-use crate::{Site, bounds_of, code_of, post};
+use crate::{Site, bounds_of, code_of, leaves_function, post};
 use std::alloc::{AllocError, Global};
 use std::test::Fail;
 use vw_bits::List;
-use vw_domain::{State, entry_is_state, entry_state};
+use vw_domain::{Register, State, entry_state};
 use vw_dynamic::Dynamic;
 use vw_elf::Elf;
 use vw_image::Image;
+use vw_insn::Reg;
 use vw_solver::Edges;
+use vw_stack::Offset;
+use vw_stmt::{Flow, Var};
+use vw_values::Value;
 
 /// A number of so many bytes at an offset: (offset, bytes, number).
 type Patch = (usize, usize, u64);
@@ -67,6 +71,33 @@ const CASES: [Case; 26] = [
     (0x06, 1, 0, &[]),
 ];
 
+/// A jump through rax at 120, the code of a function of two bytes, and at 128 a table of distances: to the first byte, to
+/// the last one, to the end, and to the first one again. Zeros stand behind it.
+const JUMP: [Patch; 7] = [
+    (96, 8, 160),
+    (104, 8, 160),
+    (120, 2, 0xe0ff),
+    (128, 4, 0xffff_fff8),
+    (132, 4, 0xffff_fff9),
+    (136, 4, 0xffff_fffa),
+    (140, 4, 0xffff_fff8),
+];
+
+/// The table of which rax tells, by its address and the number of entries that may be taken, the targets of the edges, and
+/// whether the jump may leave the function.
+const TABLES: [(u64, u64, &'static [u32], bool); 8] = [
+    (128, 1, &[0], false),
+    (128, 2, &[0, 1], false),
+    // so many are no bound of the function
+    (128, 3, &[0, 1], true),
+    (128, 4, &[0, 1, 0], true),
+    (128, 8, &[0, 1, 0], true),
+    (132, 1, &[], true),
+    // four bytes from the end, and past it
+    (156, 1, &[], true),
+    (160, 1, &[], true),
+];
+
 fn patch(bytes: &mut Vec<u8>, patches: &[Patch]) {
     for (at, size, number) in patches {
         let digits = number.to_le_bytes();
@@ -79,16 +110,17 @@ fn patch(bytes: &mut Vec<u8>, patches: &[Patch]) {
     }
 }
 
-fn file(alloc: Global, code: u64) -> Result<List<u8>, AllocError> {
-    let mut bytes = vec![in alloc; 0u8; 128]?;
+/// The file with more bytes behind it and more numbers in it.
+fn file(alloc: Global, len: usize, more: &[Patch]) -> Result<List<u8>, AllocError> {
+    let mut bytes = vec![in alloc; 0u8; len]?;
     patch(&mut bytes, &FILE);
-    patch(&mut bytes, &[(120, 8, code)]);
+    patch(&mut bytes, more);
     Ok(List::from_vec(bytes))
 }
 
-/// The image of the file with this code. `None` where a rule is broken or memory is refused.
-fn image(alloc: Global, code: u64) -> Option<Image> {
-    let bytes = file(alloc, code).ok()?;
+/// The image of this file. `None` where a rule is broken or memory is refused.
+fn image(alloc: Global, len: usize, more: &[Patch]) -> Option<Image> {
+    let bytes = file(alloc, len, more).ok()?;
     let Elf {
         segments,
         dynamics,
@@ -116,7 +148,7 @@ fn go_to(edges: &[(u32, State)], targets: &[u32]) -> bool {
 #[test]
 fn edges_of_instructions(rt: HostRuntime) -> Result<(), Fail> {
     for (code, size, at, targets) in CASES.iter() {
-        let image = image(rt.alloc(), *code).ok_or("an image")?;
+        let image = image(rt.alloc(), 128, &[(120, 8, *code)]).ok_or("an image")?;
         let tables = List::new(rt.alloc());
         let bounds = bounds_of(rt.alloc(), code_of(&image, 120, *size), &[])?;
         let site = Site {
@@ -127,12 +159,51 @@ fn edges_of_instructions(rt: HostRuntime) -> Result<(), Fail> {
             bounds: &bounds,
         };
         let state = entry_state(rt.alloc());
-        entry_is_state();
         let mut edges: Edges<State> = Edges::new(rt.alloc());
         post(rt.alloc(), &site, *at, &state, &mut edges)?;
         assert!(rt;
             go_to(edges.as_slice(), *targets),
             "{code:#x}, {size} bytes, at {at}"
+        );
+    }
+    Ok(())
+}
+
+#[test]
+fn edges_of_jumps_through_tables(rt: HostRuntime) -> Result<(), Fail> {
+    let image = image(rt.alloc(), 160, &JUMP).ok_or("an image")?;
+    let tables = List::new(rt.alloc());
+    let bounds = bounds_of(rt.alloc(), code_of(&image, 120, 2), &[])?;
+    let site = Site {
+        image: &image,
+        tables: &tables,
+        entry: 120,
+        size: 2,
+        bounds: &bounds,
+    };
+    for (a, k, targets, leaves) in TABLES.iter() {
+        let (a, k) = (*a, *k);
+        if k == 0 || 65_536 < k {
+            return Err("a count of entries".into());
+        }
+        let mut state = entry_state(rt.alloc());
+        state.write(
+            0,
+            Register {
+                offset: Offset::Unknown,
+                value: Value::JumpDest { a, k },
+            },
+        );
+        let mut edges: Edges<State> = Edges::new(rt.alloc());
+        post(rt.alloc(), &site, 0, &state, &mut edges)?;
+        assert!(rt; go_to(edges.as_slice(), *targets), "{k} entries at {a}");
+        let flow = Flow::JumpReg {
+            src: Var::Reg(Reg::Rax),
+        };
+        assert_eq!(rt;
+            leaves_function(&site, 2, flow, &state),
+            *leaves,
+            "{k} entries at {a}"
         );
     }
     Ok(())

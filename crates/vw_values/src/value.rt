@@ -1,5 +1,5 @@
 /// Where the address lies at which a tag was read. Registers stand by their numbers, 0 to 15.
-#[derive(Clone, Copy, Debug, PartialEq, Eq)]
+#[derive(Clone, Copy, PartialEq, Eq)]
 pub enum Via {
     /// The address that the register holds.
     At(u8),
@@ -10,7 +10,7 @@ pub enum Via {
 /// What is known of a word of 64 bits. `Num`, `Const`, `Below`, `Low` and `Both` are the numbers; all others but
 /// `Any` are symbols. Addresses count from the load address of the image, tables stand by their numbers from 0 to 63,
 /// tags are below 2^32 - 1, and each `k` is at least 1.
-#[derive(Clone, Copy, Debug, PartialEq, Eq)]
+#[derive(Clone, Copy, PartialEq, Eq)]
 pub enum Value {
     /// Any word.
     Any,

@@ -1,5 +1,5 @@
 mod NoPlace
-mod Points
+pub mod Points
 mod Modules
 mod Steps
 mod Functions

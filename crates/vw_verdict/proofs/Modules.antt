@@ -19,7 +19,7 @@ use Rattle.vw_checks.specs.Modules.{IsNumbered, TablesOf}
 use Rattle.vw_verdict.specs.Places.{IsPlaceIn}
 use Rattle.vw_verdict.specs.Verdicts.{IsVerdict}
 use Rattle.vw_verdict.specs.Findings.{Found, Keeps, AreKept}
-use Rattle.vw_verdict.proofs.NoPlace.{LeastIsSafe, StopsAreChecks, no_place}
+use Rattle.vw_verdict.proofs.NoPlace.{RoundsPass, StopsAreChecks, no_place}
 
 tables_more : (Holds : Context → List PointState → Type 0) (m : Module) (functions : List Function) (tables : List FunctionTable) (f : Function) (t : FunctionTable)
     → TablesOf Holds m functions tables → t.entry ≡ f.entry → Holds (context_of m f) t.states → TablesOf Holds m (functions ++ f ∷ []) (tables ++ t ∷ [])
@@ -69,7 +69,7 @@ module _ (m : Module) (n : ℕ) (f : Function) (tables : List FunctionTable) (is
     each = each_more (record { table = t.states; is_safe = found.2 });
   }
 
-  pub judged_unsafe : ((number : ℕ) (g : Function) → IsNumbered m number g → LeastIsSafe (context_of m g)) → StopsAreChecks → (place : Place) → Found (context_of m f) (finding.Unsafe place) → IsVerdict m (verdict.Unsafe place)
+  pub judged_unsafe : ((number : ℕ) (g : Function) → IsNumbered m number g → RoundsPass (context_of m g)) → StopsAreChecks → (place : Place) → Found (context_of m f) (finding.Unsafe place) → IsVerdict m (verdict.Unsafe place)
   judged_unsafe law among place found = (
     λ each. fails_here (each n f is),
     record {
@@ -82,11 +82,11 @@ module _ (m : Module) (n : ℕ) (f : Function) (tables : List FunctionTable) (is
     },
   )
     where
-      safe_before : {g : Context} → LeastIsSafe g → HasSafeTable g → (at check : ℕ) → IsPlaceIn g at check → ⊥
-      safe_before {g} least has at check = no_place g least among has.table has.is_safe at check
+      safe_before : {g : Context} → RoundsPass g → HasSafeTable g → (at check : ℕ) → IsPlaceIn g at check → ⊥
+      safe_before {g} law has at check = no_place g law among has at check
 
       fails_here : HasSafeTable (context_of m f) → ⊥
-      fails_here has = no_place (context_of m f) (law n f is) among has.table has.is_safe place.at place.check found.1
+      fails_here has = no_place (context_of m f) (law n f is) among has place.at place.check found.1
 
 pub judged_safe : (m : Module) (n : ℕ) (tables : List FunctionTable) → length m.functions ≤ n → Passed m n tables → IsVerdict m (verdict.Safe (record { functions = tables }))
 judged_safe m n tables end passed = (

@@ -1,5 +1,5 @@
 -- The points of a table, by their numbers.
-use Rattle.std.proofs.Common.{◌≡◌, ◌⊎◌, inl, inr, ℕ, zero, suc, ◌+◌, ◌≤◌, ◌<◌, Bool, true, false, cond, List, [], ◌∷◌, length, get_or, Option, Some, None, refl, sym, ◌∙◌, ap, subst, arith}
+use Rattle.std.proofs.Common.{◌≡◌, ◌⊎◌, inl, inr, ℕ, zero, suc, ◌+◌, ◌≤◌, ◌<◌, Bool, true, false, cond, List, [], ◌∷◌, length, Option, Some, None, refl, sym, ◌∙◌, ap, subst, arith}
 use Rattle.std.specs.Prelude.{◌==◌, nat_lt}
 use Rattle.std.specs.List.{slice_get, find}
 use Rattle.std.specs.Option.{option_map}
@@ -7,7 +7,6 @@ use Rattle.std.proofs.lemmas.Bool.Decides.{nat_tests}
 use Rattle.std.proofs.lemmas.Option.{slice_get_within}
 use Rattle.vw_domain.specs.declared.parts.Parts.{Parts}
 use Rattle.vw_state.specs.declared.tables.PointState.{PointState}
-use Rattle.vw_domain.specs.State.{entry_state}
 use Rattle.vw_state.specs.Tables.{state_of, RisesWithin}
 use Rattle.vw_state.specs.Context.{Context}
 use Rattle.vw_checks.specs.Checks.{Fails, Passes, LowestFailing}
@@ -53,7 +52,7 @@ above_first from last [] rises k p e = absurd (none_some e)
 above_first from last (q ∷ rest) rises zero p e = let same : q.at ≡ p.at = ap (λ (r : PointState). r.at) (some_is e) in omega (arith, same, rises.0)
 above_first from last (q ∷ rest) rises (suc k) p e = omega (arith, rises.0, above_first (suc q.at) last rest rises.2 k p e)
 
-state_there : (from last : ℕ) (table : List PointState) → RisesWithin from last table → (k : ℕ) (p : PointState) → IsAt table k p → state_of table p.at ≡ Some p.state
+pub state_there : (from last : ℕ) (table : List PointState) → RisesWithin from last table → (k : ℕ) (p : PointState) → IsAt table k p → state_of table p.at ≡ Some p.state
 state_there from last [] rises k p e = absurd (none_some e)
   where
     none_some : {A : Type 0} {x : A} → None ≡ Some x → ⊥

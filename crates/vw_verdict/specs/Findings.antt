@@ -1,10 +1,9 @@
 -- What is found of a function, as the program names it.
 use Rattle.std.specs.Prelude.{◌≡◌, ℕ, Bool, true, false, List, [], ◌∷◌, ◌++◌, Option, Some, None}
-use Rattle.vw_layout.specs.declared.functions.Function.{Function}
 use Rattle.vw_layout.specs.declared.layout.Module.{Module}
 use Rattle.vw_state.specs.declared.tables.FunctionTable.{FunctionTable}
 use Rattle.vw_state.specs.declared.tables.PointState.{PointState}
-use Rattle.vw_state.specs.Context.{Context, context_of}
+use Rattle.vw_state.specs.Context.{Context}
 use Rattle.vw_state.specs.Rounds.{IsRound, IsStable, IsLeast}
 use Rattle.vw_checks.specs.Safe.{NoneFails, IsSafeTable}
 use Rattle.vw_verdict.specs.declared.function.Finding.{Finding}

@@ -2,7 +2,7 @@ ghost use Rattle.std.specs.Prelude.{◌≡◌, ◌≤◌, length, Contains, IfOk
 ghost use Rattle.vw_layout.specs.declared.functions.Function.{Function};
 ghost use Rattle.vw_layout.specs.Layout.{IsWhole};
 ghost use Rattle.vw_state.specs.Context.{context_of, IsSite};
-ghost use Rattle.vw_state.specs.Tables.{AllFit, RisesWithin};
+ghost use Rattle.vw_state.specs.Tables.{RisesWithin};
 ghost use Rattle.vw_verdict.specs.Findings.{FirstFailing};
 
 use std::alloc::Global;
@@ -21,7 +21,6 @@ pub fn first_failing(
 ) -> Result<Option<(u32, u8)>, OutOfMemory>
     requires whole { IsWhole loaded.now }
     requires few { length site.now.tables.now ≤ 64 }
-    requires fit { AllFit site.now.bounds.now states.now }
     requires rises { RisesWithin 0 site.now.size states.now }
     ensures { (f : Function) → Contains loaded.now.functions f
         → IsSite (context_of loaded.now f) site.now

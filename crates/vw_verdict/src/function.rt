@@ -1,20 +1,22 @@
-ghost use Rattle.std.specs.Prelude.{◌≡◌, ◌+◌, ◌<◌, ◌≤◌, length, map, Some, IfOk};
+ghost use Rattle.std.specs.Prelude.{◌≡◌, ◌-◌, ◌<◌, ◌≤◌, length, map, Some, IfOk};
 ghost use Rattle.std.specs.List.{All, slice_get};
 ghost use Rattle.vw_layout.specs.declared.functions.Function.{Function};
 ghost use Rattle.vw_layout.specs.Layout.{IsWhole};
 ghost use Rattle.vw_state.specs.Context.{context_of, extent_of, lengths_of, IsSite};
-ghost use Rattle.vw_state.specs.Laws.{tick_limit};
-ghost use Rattle.vw_state.specs.Tables.{AllFit};
+ghost use Rattle.vw_graph.specs.Rounds.{WithinRounds};
 ghost use Rattle.vw_verdict.specs.Findings.{Found, EndsStable};
 
 use crate::failing::first_failing;
 use std::alloc::Global;
 use std::sync::ledger::Ledger;
 use vw_bits::OutOfMemory;
+use vw_checks::stable_rounds_are_safe;
 use vw_graph::{Rounds, rounds_at};
 use vw_layout::Module;
 use vw_solver::Steps;
-use vw_state::{FunctionTable, Place, Site, bounds_of, code_of, one_round};
+use vw_state::{
+    FunctionTable, Place, Site, bounds_of, code_of, codes_are_bytes, sites_are_in_range,
+};
 use vw_values::TableList;
 
 /// What is found of a function.
@@ -46,7 +48,7 @@ pub(crate) fn judge_function<L: Ledger>(
         → slice_get loaded.now.functions number ≡ Some f
         → Found (context_of loaded.now f) finding) }
     ensures ticks { (f : Function) → slice_get loaded.now.functions number ≡ Some f
-        → steps.new ≤ steps.old + tick_limit (context_of loaded.now f) }
+        → WithinRounds (context_of loaded.now f) (steps.new - steps.old) }
     ensures counts { steps.old ≤ steps.new }
 {
     let function = &loaded.functions.as_slice()[number as usize];
@@ -84,15 +86,15 @@ fn judge_table(
     requires site { (f : Function) → slice_get loaded.now.functions number ≡ Some f
         → IsSite (context_of loaded.now f) site.now }
     requires few { length site.now.tables.now ≤ 64 }
-    requires fit { (f : Function) → slice_get loaded.now.functions number ≡ Some f
-        → AllFit (context_of loaded.now f).bounds table.states }
     requires stable { (f : Function) → slice_get loaded.now.functions number ≡ Some f
         → EndsStable (context_of loaded.now f) table }
     ensures { IfOk result (λ finding. (f : Function)
         → slice_get loaded.now.functions number ≡ Some f
         → Found (context_of loaded.now f) finding) }
 {
-    one_round();
+    stable_rounds_are_safe();
+    sites_are_in_range(loaded);
+    codes_are_bytes(loaded);
     match first_failing(alloc, loaded, site, table.states.as_slice())? {
         Some((at, check)) => Ok(unsafe_at(table.entry, at, check)),
         None => Ok(Finding::Safe(table)),

@@ -1,15 +1,14 @@
-ghost use Rattle.std.specs.Prelude.{◌+◌, ◌≤◌, sum_by, IfOk, OnOk};
+ghost use Rattle.std.specs.Prelude.{◌-◌, ◌≤◌, IfOk, OnOk};
 ghost use Rattle.vw_layout.specs.Layout.{IsWhole};
-ghost use Rattle.vw_state.specs.Context.{context_of};
-ghost use Rattle.vw_state.specs.Laws.{tick_limit};
 ghost use Rattle.vw_verdict.specs.Findings.{IsJudged, Keeps};
+ghost use Rattle.vw_verdict.specs.Ticks.{SumWithin};
 ghost use Rattle.vw_verdict.specs.Verdicts.{IsVerdict, IsJudgement};
 
 use crate::function::{Finding, judge_function};
 use std::alloc::Global;
 use std::sync::ledger::Ledger;
 use vw_bits::{List, OutOfMemory};
-use vw_checks::{least_table_is_safe, stops_are_checks};
+use vw_checks::{rounds_of_safe_functions_pass, stops_are_checks};
 use vw_layout::{Module, functions_ascend};
 use vw_solver::Steps;
 use vw_state::{
@@ -21,8 +20,9 @@ use vw_state::{
 /// table: a solution of its equations at whose points no check fails. Else Unsafe, with the place of the first
 /// function by address that has one: the lowest point of its least table at which check 1 or 2 fails, or, where
 /// neither fails, the lowest at which another check fails, with the lowest number there. It counts a step for
-/// each evaluation of a point: for each function each of its points at most once more than a state can rise, whatever the
-/// answer. OutOfMemory where the allocator refuses a request; then only the steps have changed.
+/// each evaluation of a point: for each function, in one round more than the last round has jumps, each of its points at
+/// most once more than a state can rise, whatever the answer. OutOfMemory where the allocator refuses a request; then
+/// only the steps have changed.
 pub fn judge<L: Ledger>(
     alloc: Global,
     loaded: &Module,
@@ -30,8 +30,7 @@ pub fn judge<L: Ledger>(
 ) -> Result<Verdict, OutOfMemory>
     requires { IsWhole loaded.now }
     ensures judged { IfOk result (IsVerdict loaded.now) }
-    ensures ticks { steps.new ≤ steps.old
-        + sum_by (λ f. tick_limit (context_of loaded.now f)) loaded.now.functions }
+    ensures ticks { SumWithin loaded.now loaded.now.functions (steps.new - steps.old) }
     ensures counts { steps.old ≤ steps.new }
 {
     judge_each(alloc, loaded, true, steps)
@@ -46,8 +45,7 @@ pub fn find_place<L: Ledger>(
 ) -> Result<Option<Place>, OutOfMemory>
     requires { IsWhole loaded.now }
     ensures judged { IfOk result (IsJudgement loaded.now) }
-    ensures ticks { steps.new ≤ steps.old
-        + sum_by (λ f. tick_limit (context_of loaded.now f)) loaded.now.functions }
+    ensures ticks { SumWithin loaded.now loaded.now.functions (steps.new - steps.old) }
     ensures counts { steps.old ≤ steps.new }
 {
     match judge_each(alloc, loaded, false, steps)? {
@@ -65,12 +63,11 @@ fn judge_each<L: Ledger>(
 ) -> Result<Verdict, OutOfMemory>
     requires { IsWhole loaded.now }
     ensures judged { IfOk result (IsJudged keeps loaded.now) }
-    ensures ticks { steps.new ≤ steps.old
-        + sum_by (λ f. tick_limit (context_of loaded.now f)) loaded.now.functions }
+    ensures ticks { SumWithin loaded.now loaded.now.functions (steps.new - steps.old) }
     ensures counts { steps.old ≤ steps.new }
 {
     functions_ascend();
-    least_table_is_safe();
+    rounds_of_safe_functions_pass();
     stops_are_checks();
     sites_are_in_range(loaded);
     codes_are_bytes(loaded);

@@ -13,72 +13,102 @@ use vw_state::{PointState, Verdict};
 /// A number of so many bytes at an offset: (offset, bytes, number).
 type Patch = (usize, usize, u64);
 
-/// A file of 376 bytes with a function at address 120: one PT_LOAD with R and X, from 0 at address 0; eight
+/// A file of 416 bytes with a function at address 120: one PT_LOAD with R and X, from 0 at address 0; 48
 /// bytes of code; a null symbol and one of the function; strings; the headers of three sections.
-const FILE: [Patch; 28] = [
+const FILE: [Patch; 29] = [
     (0, 4, 0x464c_457f),
     (4, 1, 2),
     (5, 1, 1),
     (16, 2, 3),
     (18, 2, 62),
     (32, 8, 64),
-    (40, 8, 184),
+    (40, 8, 224),
     (54, 2, 56),
     (56, 2, 1),
     (58, 2, 64),
     (60, 2, 3),
     (64, 4, 1),
     (68, 4, 5),
-    (96, 8, 128),
-    (104, 8, 128),
+    (96, 8, 168),
+    (104, 8, 168),
     (112, 8, 4096),
-    (152, 4, 1),
-    (156, 1, 0x12),
-    (158, 2, 1),
-    (160, 8, 120),
-    (177, 1, 0x66),
-    (252, 4, 2),
-    (272, 8, 128),
-    (280, 8, 48),
-    (288, 4, 2),
-    (304, 8, 24),
-    (316, 4, 3),
-    (336, 8, 176),
+    (192, 4, 1),
+    (196, 1, 0x12),
+    (198, 2, 1),
+    (200, 8, 120),
+    (217, 1, 0x66),
+    (292, 4, 2),
+    (312, 8, 168),
+    (320, 8, 48),
+    (328, 4, 2),
+    (344, 8, 24),
+    (356, 4, 3),
+    (376, 8, 216),
+    (384, 8, 3),
 ];
 
-/// Eight bytes of code, the first one lowest, the size of the function that they begin with, the place where a
-/// check fails, and where none does the points of the least table.
-type Case = (u64, u64, Option<(u32, u8)>, &'static [u32]);
+/// A switch with three cases: `cmp esi, 3`, `jae` to the last `ret`, `mov eax, esi`, `lea rcx, [table]`,
+/// `movsxd rax, [rcx + rax * 4]`, `add rax, rcx`, `jmp rax`, three times `ret`; the table of distances to these, and one
+/// that leads out of the function.
+const SWITCH: [u8; 42] = [
+    0x83, 0xfe, 0x03, 0x73, 0x14, 0x89, 0xf0, 0x48, 0x8d, 0x0d, 0x0c, 0, 0, 0, 0x48, 0x63, 0x04,
+    0x81, 0x48, 0x01, 0xc8, 0xff, 0xe0, 0xc3, 0xc3, 0xc3, 0xfd, 0xff, 0xff, 0xff, 0xfe, 0xff, 0xff,
+    0xff, 0xff, 0xff, 0xff, 0xff, 0, 0x10, 0, 0,
+];
+/// The same with `ja`, so that the fourth entry is read too.
+const WIDE_SWITCH: [u8; 42] = [
+    0x83, 0xfe, 0x03, 0x77, 0x14, 0x89, 0xf0, 0x48, 0x8d, 0x0d, 0x0c, 0, 0, 0, 0x48, 0x63, 0x04,
+    0x81, 0x48, 0x01, 0xc8, 0xff, 0xe0, 0xc3, 0xc3, 0xc3, 0xfd, 0xff, 0xff, 0xff, 0xfe, 0xff, 0xff,
+    0xff, 0xff, 0xff, 0xff, 0xff, 0, 0x10, 0, 0,
+];
 
-const CASES: [Case; 19] = [
-    (0xc3, 1, None, &[0]),
-    (0x0b0f, 2, None, &[0]),
+/// The code of the function, the place where a check fails, and where none does the points of the least table.
+type Case = (&'static [u8], Option<(u32, u8)>, &'static [u32]);
+
+const CASES: [Case; 22] = [
+    (&[0xc3], None, &[0]),
+    (&[0x0f, 0x0b], None, &[0]),
     // a branch to itself, a jump to itself
-    (0xc3_fe74, 3, None, &[0, 2]),
-    (0xfeeb, 2, None, &[0]),
+    (&[0x74, 0xfe, 0xc3], None, &[0, 2]),
+    (&[0xeb, 0xfe], None, &[0]),
     // a branch over a byte that begins no instruction, and back
-    (0xfeeb_06_0174, 5, Some((2, 1)), &[]),
-    (0xfeeb_06_01eb, 5, None, &[0, 3]),
+    (&[0x74, 0x01, 0x06, 0xeb, 0xfe], Some((2, 1)), &[]),
+    (&[0xeb, 0x01, 0x06, 0xeb, 0xfe], None, &[0, 3]),
     // out of the function
-    (0xc3_0275, 3, Some((0, 2)), &[]),
-    (0x7feb, 2, Some((0, 2)), &[]),
-    (0x90, 1, Some((1, 1)), &[]),
+    (&[0x75, 0x02, 0xc3], Some((0, 2)), &[]),
+    (&[0xeb, 0x7f], Some((0, 2)), &[]),
+    (&[0x90], Some((1, 1)), &[]),
     // below the heap's base; the jump goes to the entry
-    (0xf8eb_f847_8b90_0174, 8, Some((3, 4)), &[]),
-    (0xf8eb_0847_8b90_0174, 8, None, &[0, 2, 3, 6]),
+    (
+        &[0x74, 0x01, 0x90, 0x8b, 0x47, 0xf8, 0xeb, 0xf8],
+        Some((3, 4)),
+        &[],
+    ),
+    (
+        &[0x74, 0x01, 0x90, 0x8b, 0x47, 0x08, 0xeb, 0xf8],
+        None,
+        &[0, 2, 3, 6],
+    ),
     // check 4 at 0, check 1 at 3: the rounds come first
-    (0x90_f847_8b, 4, Some((4, 1)), &[]),
+    (&[0x8b, 0x47, 0xf8, 0x90], Some((4, 1)), &[]),
     // check 4 at 3 and at 0: the lowest point
-    (0xc3_f8_478b_f847_8b, 7, Some((0, 4)), &[]),
+    (
+        &[0x8b, 0x47, 0xf8, 0x8b, 0x47, 0xf8, 0xc3],
+        Some((0, 4)),
+        &[],
+    ),
     // check 4 at a point that no run comes to
-    (0xf847_8b_03eb, 5, Some((0, 2)), &[]),
-    (0xc3f8_478b_03eb, 6, None, &[0, 5]),
+    (&[0xeb, 0x03, 0x8b, 0x47, 0xf8], Some((0, 2)), &[]),
+    (&[0xeb, 0x03, 0x8b, 0x47, 0xf8, 0xc3], None, &[0, 5]),
     // an addition, and an access at its sum
-    (0xc3_c001_48, 4, None, &[0, 3]),
-    (0xc3_008b_c001_48, 6, Some((3, 4)), &[]),
-    // a call of no function, and what this version cannot judge: a jump through a register
-    (0xc3_0000_0000_e8, 6, Some((0, 7)), &[]),
-    (0xe0ff_90, 3, Some((1, 2)), &[]),
+    (&[0x48, 0x01, 0xc0, 0xc3], None, &[0, 3]),
+    (&[0x48, 0x01, 0xc0, 0x8b, 0, 0xc3], Some((3, 4)), &[]),
+    // a call of no function, a call and a jump through a register of which nothing is known
+    (&[0xe8, 0, 0, 0, 0, 0xc3], Some((0, 7)), &[]),
+    (&[0x90, 0xff, 0xe0], Some((1, 2)), &[]),
+    (&[0xff, 0xd0, 0xc3], Some((0, 7)), &[]),
+    (&SWITCH, None, &[0, 3, 5, 7, 14, 18, 21, 23, 24, 25]),
+    (&WIDE_SWITCH, Some((21, 2)), &[]),
 ];
 
 fn patch(bytes: &mut Vec<u8>, patches: &[Patch]) {
@@ -93,10 +123,15 @@ fn patch(bytes: &mut Vec<u8>, patches: &[Patch]) {
     }
 }
 
-fn file(alloc: Global, code: u64, size: u64) -> Result<List<u8>, AllocError> {
-    let mut bytes = vec![in alloc; 0u8; 376]?;
+fn file(alloc: Global, code: &[u8]) -> Result<List<u8>, AllocError> {
+    let mut bytes = vec![in alloc; 0u8; 416]?;
     patch(&mut bytes, &FILE);
-    patch(&mut bytes, &[(120, 8, code), (168, 8, size), (344, 8, 3)]);
+    patch(&mut bytes, &[(208, 8, code.len() as u64)]);
+    for (index, byte) in code.iter().enumerate() {
+        if let Some(place) = bytes.get_mut(index.saturating_add(120)) {
+            *place = *byte;
+        }
+    }
     Ok(List::from_vec(bytes))
 }
 
@@ -131,13 +166,10 @@ fn is_verdict(verdict: &Verdict, place: Option<(u32, u8)>, points: &[u32]) -> bo
 
 #[test]
 fn verdicts_on_functions(rt: HostRuntime) -> Result<(), Fail> {
-    for (code, size, place, points) in CASES.iter() {
-        let bytes = file(rt.alloc(), *code, *size)?;
+    for (code, place, points) in CASES.iter() {
+        let bytes = file(rt.alloc(), code)?;
         let found = judged::<Brand>(rt.alloc(), bytes, Blank::new(1)).ok_or("judge")?;
-        assert!(rt;
-            is_verdict(&found, *place, *points),
-            "{code:#x}, {size} bytes"
-        );
+        assert!(rt; is_verdict(&found, *place, *points), "{code:?}");
     }
     Ok(())
 }

@@ -2,4 +2,4 @@ use Rattle.vw_app.proofs.Answers.{accepted_reply}
 use Rattle.vw_app.proofs.laws.accepted_files_are_answered.Goals as goal
 
 pub returns : goal.returns
-returns c = accepted_reply c.least_tables_are_one.ensures
+returns c = accepted_reply

@@ -1,6 +1,5 @@
 use Rattle.std.proofs.Common.{ℕ, drop, Option}
 use Rattle.vw_domain.specs.Abstract.{abstract_of}
-use Rattle.vw_domain.specs.State.{Fits}
 use Rattle.vw_state.specs.Context.{Context, IsSite}
 use Rattle.vw_checks.specs.Checks.{IsLowestOf, StmtsFail, lower}
 use Rattle.vw_checks.specs.Functions.{IsFunctionOf}
@@ -8,6 +7,5 @@ use Rattle.vw_checks.proofs.checks.failing_stmts.Given as goal
 
 abbrev pub invariant-loop-stmt : goal.invariant-loop-stmt
 invariant-loop-stmt l =
-    Fits l.site.bounds.now l.current
-    × ((f : Context) → IsFunctionOf l.loaded f → IsSite f l.site → (o : Option ℕ) → IsLowestOf (StmtsFail f l.next (abstract_of l.current) (drop l.stmt-index l.stmts)) o
-    → IsLowestOf (StmtsFail f l.next (abstract_of l.fn.state) l.stmts) (lower l.lowest o))
+    (f : Context) → IsFunctionOf l.loaded f → IsSite f l.site → (o : Option ℕ) → IsLowestOf (StmtsFail f l.next (abstract_of l.current) (drop l.stmt-index l.stmts)) o
+    → IsLowestOf (StmtsFail f l.next (abstract_of l.fn.state) l.stmts) (lower l.lowest o)

@@ -1,86 +1,42 @@
-use Rattle.std.proofs.Common.{◌≡◌, ◌∙◌, refl, sym, subst, arith}
+use Rattle.std.proofs.Common.{◌+◌, List, [], Option}
 use Rattle.vw_rows.specs.Numbers.{IsBytes}
+use Rattle.vw_solver.specs.Solution.{IsLeast, HoldsReachedPoints}
+use Rattle.vw_solver.specs.Standing.{IsTable}
+use Rattle.vw_domain.specs.declared.parts.Parts.{Parts}
+use Rattle.vw_domain.specs.State.{IsValidState, state_below}
 use Rattle.vw_state.specs.Context.{Context, context_of, code_of}
 use Rattle.vw_state.specs.Laws.{HasSites}
-use Rattle.vw_graph.proofs.Ended.{stable, stopped}
-use Rattle.vw_graph.proofs.FirstRound.{rising, all_fit, least_of, ticks}
-use Rattle.vw_graph.proofs.Targets.{site_code}
+use Rattle.vw_graph.specs.Course.{IsInRound}
+use Rattle.vw_graph.proofs.Finds.{if_ok_three}
+use Rattle.vw_graph.proofs.NextRound.{first_in_round}
+use Rattle.vw_graph.proofs.Solving.{Equations, edges_of, rising, grown, ticks}
+use Rattle.vw_graph.proofs.Targets.{site_bytes}
 use Rattle.vw_graph.proofs.round.first_round.Goals as goal
-
-pub of_function-graph-requires : goal.of_function-graph-requires
-of_function-graph-requires g c = record {
-  is_site = c.requires.site;
-  sites = c.sites_are_in_range.ensures c.args.declared.now c.requires.listed;
-  few = c.requires.few;
-  code_is = c.code-code.ensures.code;
-  short = omega (arith, c.code-code.ensures.size, c.requires.site.size);
-  size = refl;
-}
 
 pub solve-requires-clause-rise : goal.solve-requires-clause-rise
 solve-requires-clause-rise g c =
     let f : Context = context_of c.args.loaded.now c.args.declared.now in
-    let code : c.code-code.result.now ≡ code_of f = c.code-code.ensures.code ∙ site_code f c.args.site c.requires.site in
-    let bytes : IsBytes (code_of f) = subst IsBytes code c.code-code.ensures.bytes in
+    let bytes : IsBytes (code_of f) = site_bytes f c.args.site c.args.code.now (f.size + 1) c.requires.graph in
     let sites : HasSites f = c.sites_are_in_range.ensures c.args.declared.now c.requires.listed in
-    rising f c.of_function-graph.result c.of_function-graph.ensures (c.edges_rise.ensures.rise f bytes sites) (c.edges_rise.ensures.valid f bytes sites)
+    rising f [] c.of_function-graph.result c.of_function-graph.ensures (c.edges_rise.ensures.rise f bytes sites) (c.edges_rise.ensures.valid f bytes sites)
 
-pub returns-in_err-solved-clause-ticks : goal.returns-in_err-solved-clause-ticks
-returns-in_err-solved-clause-ticks g c =
+pub returns-clause-solved : goal.returns-clause-solved
+returns-clause-solved g c =
     let f : Context = context_of c.args.loaded.now c.args.declared.now in
-    let code : c.code-code.result.now ≡ code_of f = c.code-code.ensures.code ∙ site_code f c.args.site c.requires.site in
-    let bytes : IsBytes (code_of f) = subst IsBytes code c.code-code.ensures.bytes in
+    let bytes : IsBytes (code_of f) = site_bytes f c.args.site c.args.code.now (f.size + 1) c.requires.graph in
     let sites : HasSites f = c.sites_are_in_range.ensures c.args.declared.now c.requires.listed in
-    ticks f c.of_function-graph.result c.of_function-graph.ensures c.entry_state-first.result c.entry_state-first.ensures c.state_ranks_are_small.ensures.small c.entry_is_state.ensures (c.edges_rise.ensures.valid f bytes sites) (c.edges_grow_slowly.ensures f bytes sites) _ _ c.solve.ensures.bound
+    let q : Equations = c.of_function-graph.result in
+    let s : Parts = c.entry_state.result in
+    let counted = ticks f [] q c.of_function-graph.ensures s c.entry_state.ensures c.state_ranks_are_small.ensures.small c.entry_is_state.ensures (c.edges_rise.ensures.valid f bytes sites) (c.edges_grow_slowly.ensures f bytes sites) _ _ c.solve.ensures.bound in
+    if_ok_three (λ (t : List (Option Parts)). IsLeast state_below (IsValidState q.0.bounds) (edges_of q) (q.0.size + 1) 0 s t) (λ (t : List (Option Parts)). HoldsReachedPoints (edges_of q) 0 t) (λ (t : List (Option Parts)). IsTable state_below (IsValidState q.0.bounds) (edges_of q) (q.0.size + 1) 0 s t []) (λ (t : List (Option Parts)). IsInRound f [] t c.args.steps.now c.solve.new.steps) c.solve.result
+    (λ t least reached stands.
+    first_in_round c.edges_are_post.ensures.are c.edges_are_post.ensures.only f bytes c.entry_is_state.ensures (c.edges_rise.ensures.rise f bytes sites) (c.edges_rise.ensures.valid f bytes sites) t c.args.steps.now c.solve.new.steps
+    (grown f [] q c.of_function-graph.ensures s c.entry_state.ensures t (record { least = least; reached = reached; stands = stands })) counted)
+    c.solve.ensures.least c.solve.ensures.reached c.solve.ensures.stands
 
-pub returns-in_err-point_states-clause-ticks : goal.returns-in_err-point_states-clause-ticks
-returns-in_err-point_states-clause-ticks g c =
+pub returns-clause-ticks : goal.returns-clause-ticks
+returns-clause-ticks g c =
     let f : Context = context_of c.args.loaded.now c.args.declared.now in
-    let code : c.code-code.result.now ≡ code_of f = c.code-code.ensures.code ∙ site_code f c.args.site c.requires.site in
-    let bytes : IsBytes (code_of f) = subst IsBytes code c.code-code.ensures.bytes in
+    let bytes : IsBytes (code_of f) = site_bytes f c.args.site c.args.code.now (f.size + 1) c.requires.graph in
     let sites : HasSites f = c.sites_are_in_range.ensures c.args.declared.now c.requires.listed in
-    ticks f c.of_function-graph.result c.of_function-graph.ensures c.entry_state-first.result c.entry_state-first.ensures c.state_ranks_are_small.ensures.small c.entry_is_state.ensures (c.edges_rise.ensures.valid f bytes sites) (c.edges_grow_slowly.ensures f bytes sites) _ _ c.solve.ensures.bound
-
-pub returns-in-Some-clause-ticks : goal.returns-in-Some-clause-ticks
-returns-in-Some-clause-ticks g c =
-    let f : Context = context_of c.args.loaded.now c.args.declared.now in
-    let code : c.code-code.result.now ≡ code_of f = c.code-code.ensures.code ∙ site_code f c.args.site c.requires.site in
-    let bytes : IsBytes (code_of f) = subst IsBytes code c.code-code.ensures.bytes in
-    let sites : HasSites f = c.sites_are_in_range.ensures c.args.declared.now c.requires.listed in
-    ticks f c.of_function-graph.result c.of_function-graph.ensures c.entry_state-first.result c.entry_state-first.ensures c.state_ranks_are_small.ensures.small c.entry_is_state.ensures (c.edges_rise.ensures.valid f bytes sites) (c.edges_grow_slowly.ensures f bytes sites) _ _ c.solve.ensures.bound
-
-pub returns-in-None-clause-ticks : goal.returns-in-None-clause-ticks
-returns-in-None-clause-ticks g c =
-    let f : Context = context_of c.args.loaded.now c.args.declared.now in
-    let code : c.code-code.result.now ≡ code_of f = c.code-code.ensures.code ∙ site_code f c.args.site c.requires.site in
-    let bytes : IsBytes (code_of f) = subst IsBytes code c.code-code.ensures.bytes in
-    let sites : HasSites f = c.sites_are_in_range.ensures c.args.declared.now c.requires.listed in
-    ticks f c.of_function-graph.result c.of_function-graph.ensures c.entry_state-first.result c.entry_state-first.ensures c.state_ranks_are_small.ensures.small c.entry_is_state.ensures (c.edges_rise.ensures.valid f bytes sites) (c.edges_grow_slowly.ensures f bytes sites) _ _ c.solve.ensures.bound
-
-pub returns-in-Some-clause-fit : goal.returns-in-Some-clause-fit
-returns-in-Some-clause-fit g c =
-    let f : Context = context_of c.args.loaded.now c.args.declared.now in
-    all_fit f c.of_function-graph.result c.of_function-graph.ensures c.entry_state-first.result c.entry_state-first.ensures _ c.in_ok-solved.ensures.least _ c.in_ok-point_states.ensures
-
-pub returns-in-Some-clause-rounds : goal.returns-in-Some-clause-rounds
-returns-in-Some-clause-rounds g c =
-    let f : Context = context_of c.args.loaded.now c.args.declared.now in
-    let code : c.code-code.result.now ≡ code_of f = c.code-code.ensures.code ∙ site_code f c.args.site c.requires.site in
-    let bytes : IsBytes (code_of f) = subst IsBytes code c.code-code.ensures.bytes in
-    let sites : HasSites f = c.sites_are_in_range.ensures c.args.declared.now c.requires.listed in
-    let least = least_of f c.of_function-graph.result c.of_function-graph.ensures c.entry_state-first.result c.entry_state-first.ensures c.edges_are_post.ensures.are c.edges_are_post.ensures.only c.entry_is_state.ensures bytes (c.edges_rise.ensures.rise f bytes sites) (c.edges_rise.ensures.valid f bytes sites) _ c.in_ok-solved.ensures.least c.in_ok-solved.ensures.stands in
-    stopped c.one_round.ensures.jumps f _ least _ c.in_ok-point_states.ensures c.args.declared.now.entry refl c.in-Some.at c.in-Some.check ((rw c.in-Some.is at c.first_fault-fault.ensures.some) f (sym code) refl)
-
-pub returns-in-None-clause-fit : goal.returns-in-None-clause-fit
-returns-in-None-clause-fit g c =
-    let f : Context = context_of c.args.loaded.now c.args.declared.now in
-    all_fit f c.of_function-graph.result c.of_function-graph.ensures c.entry_state-first.result c.entry_state-first.ensures _ c.in_ok-solved.ensures.least _ c.in_ok-point_states.ensures
-
-pub returns-in-None-clause-rounds : goal.returns-in-None-clause-rounds
-returns-in-None-clause-rounds g c =
-    let f : Context = context_of c.args.loaded.now c.args.declared.now in
-    let code : c.code-code.result.now ≡ code_of f = c.code-code.ensures.code ∙ site_code f c.args.site c.requires.site in
-    let bytes : IsBytes (code_of f) = subst IsBytes code c.code-code.ensures.bytes in
-    let sites : HasSites f = c.sites_are_in_range.ensures c.args.declared.now c.requires.listed in
-    let least = least_of f c.of_function-graph.result c.of_function-graph.ensures c.entry_state-first.result c.entry_state-first.ensures c.edges_are_post.ensures.are c.edges_are_post.ensures.only c.entry_is_state.ensures bytes (c.edges_rise.ensures.rise f bytes sites) (c.edges_rise.ensures.valid f bytes sites) _ c.in_ok-solved.ensures.least c.in_ok-solved.ensures.stands in
-    stable c.one_round.ensures.jumps f _ least _ c.in_ok-point_states.ensures c.args.declared.now.entry refl ((rw c.in-None.is at c.first_fault-fault.ensures.none) f (sym code) refl)
+    ticks f [] c.of_function-graph.result c.of_function-graph.ensures c.entry_state.result c.entry_state.ensures c.state_ranks_are_small.ensures.small c.entry_is_state.ensures (c.edges_rise.ensures.valid f bytes sites) (c.edges_grow_slowly.ensures f bytes sites) _ _ c.solve.ensures.bound

@@ -1,5 +1,5 @@
 use Rattle.std.specs.Prelude.{Contains}
-use Rattle.std.proofs.Common.{refl}
+use Rattle.std.proofs.Common.{◌+◌, ◌^◌, ◌≤◌, refl, arith}
 use Rattle.vw_image.specs.Image.{image_of}
 use Rattle.vw_layout.specs.Layout.{IsWhole, declared_functions}
 use Rattle.vw_layout.specs.declared.functions.Function.{Function}
@@ -7,7 +7,7 @@ use Rattle.vw_layout.specs.declared.layout.Module.{Module as Declared}
 use Rattle.vw_state.specs.Context.{code_of, context_of}
 use Rattle.vw_machine.specs.Module.{declared_module, module_of, view_of}
 use Rattle.vw_sandbox.specs.MapOf.{map_of}
-use Rattle.vw_sandbox.proofs.Modules.{Laws, HoldsCode, are_bytes, holds_code}
+use Rattle.vw_sandbox.proofs.Modules.{Laws, HoldsCode, are_bytes, holds_code, ends_low}
 use Rattle.vw_sandbox.proofs.StateTables.{bounds_of, forms_of, StateLaws, IsAlone, abstracts_are_safe, map_is}
 use Rattle.vw_sandbox.proofs.Witnesses.{one_by_entry}
 use Rattle.vw_sandbox.proofs.state_laws.safe_tables_are_sandboxed.Goals as goal
@@ -49,6 +49,7 @@ returns c file tables is bytes safe =
     let alone : (f : Function) → Contains m.functions f → IsAlone m.functions f =
     λ f listed g among same. one_by_entry (declared_functions file) (λ j k h i. c.functions_ascend.ensures.ascend file j k h i is) f g listed among same in
     let held : (f : Function) → Contains m.functions f → HoldsCode (view_of m) f (code_of (context_of m f)) = λ f listed. holds_code code file is f listed in
+    let ends : (f : Function) → Contains m.functions f → f.entry + f.size ≤ 2 ^ 64 = λ f listed. (let low = ends_low code file is f listed in omega (arith, low)) in
     c.safe_states_are_sandboxed.ensures file (bounds_of m) (forms_of tables.functions) (map_of m tables) is bytes
-    (abstracts_are_safe states m tables whole bytes safe alone (λ f listed. are_bytes code file is f listed bytes) held)
-    (map_is states m tables whole bytes safe alone (λ f listed. are_bytes code file is f listed bytes) held)
+    (abstracts_are_safe states m tables whole bytes safe alone (λ f listed. are_bytes code file is f listed bytes) held ends)
+    (map_is states m tables whole bytes safe alone (λ f listed. are_bytes code file is f listed bytes) held ends)

@@ -11,8 +11,8 @@ returns-then-from-to-clause-form c =
     ∙ copy_same (abstract_of c.args.state.now) c.args.to c.args.from c.if-from-to.true _ _ _ _ c.register-known.ensures.value c.register-known.ensures.offset
 
 pub returns-then-from-to-clause-fits : goal.returns-then-from-to-clause-fits
-returns-then-from-to-clause-fits c =
-    c.write.ensures.fits _ c.requires.fits (subst (IsAmong c.args.site.now.bounds.now) (sym c.register-known.ensures.value) (c.requires.fits.registers c.args.from))
+returns-then-from-to-clause-fits c = λ fits.
+    c.write.ensures.fits _ fits (subst (IsAmong c.args.site.now.bounds.now) (sym c.register-known.ensures.value) (fits.registers c.args.from))
 
 pub returns-clause-form : goal.returns-clause-form
 returns-clause-form c =
@@ -21,4 +21,4 @@ returns-clause-form c =
     ∙ copy_other st c.args.to c.args.from c.if-from-to.false (value_of st c.args.from) _ _ c.register-known.ensures.offset
 
 pub returns-clause-fits : goal.returns-clause-fits
-returns-clause-fits c = c.in_ok-copy_to.ensures.fits _ c.requires.fits
+returns-clause-fits c = c.in_ok-copy_to.ensures.fits _

@@ -1,6 +1,6 @@
 use mir.Val.{SFits}
 use Rattle.std.proofs.lemmas.Int.{to_z-of_z}
-use Rattle.std.proofs.Common.{rules, w64, to_z, of_z, ◌≡◌, None, Some, sym, subst, ◌∙◌, ap}
+use Rattle.std.proofs.Common.{rules, w64, to_z, of_z, ◌≡◌, None, Some, sym, ◌∙◌, ap}
 use Rattle.std.specs.Prelude.{ℤ, Option, option_map}
 use Rattle.vw_names.specs.declared.spot.Spot.{Spot}
 use Rattle.vw_names.specs.declared.spot.Spot.TheVariants.{Slot}
@@ -32,7 +32,7 @@ returns-in_ok-copy_to-in-Some-clause-form c =
     ∙ ap (λ (a : Address). write st c.args.dst (load_source st a c.args.size c.args.signed) v offset.Unknown) c.address_at-at.ensures.is)
 
 pub returns-in_ok-copy_to-in-Some-clause-fits : goal.returns-in_ok-copy_to-in-Some-clause-fits
-returns-in_ok-copy_to-in-Some-clause-fits c = c.in_ok-copy_to-in-Some.ensures.fits _ c.requires.fits
+returns-in_ok-copy_to-in-Some-clause-fits c = c.in_ok-copy_to-in-Some.ensures.fits _
 
 pub returns-in-None-clause-form : goal.returns-in-None-clause-form
 returns-in-None-clause-form c =
@@ -47,4 +47,4 @@ returns-in-None-clause-form c =
     ∙ ap (λ (a : Address). write st c.args.dst (load_source st a c.args.size c.args.signed) (load_value e st a c.args.size c.args.to c.args.signed) offset.Unknown) c.address_at-at.ensures.is))
 
 pub returns-in-None-clause-fits : goal.returns-in-None-clause-fits
-returns-in-None-clause-fits c = c.write.ensures.fits _ c.requires.fits c.loaded-known.ensures.known.1
+returns-in-None-clause-fits c = λ fits. c.write.ensures.fits _ fits (c.loaded-known.ensures.among fits)

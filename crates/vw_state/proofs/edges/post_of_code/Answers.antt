@@ -1,23 +1,36 @@
-use Rattle.std.proofs.Common.{◌≡◌, ◌∙◌, ◌≤◌, ℕ, List, ◌++◌, length, ap, sym, subst, arith}
+use Rattle.std.proofs.Common.{◌≡◌, ◌∙◌, ◌≤◌, ℕ, List, length, ◌+◌, ap, sym, subst, arith}
 use Rattle.std.proofs.lemmas.Result.{on_ok_weaker}
 use Rattle.vw_rows.specs.Numbers.{IsBytes}
-use Rattle.vw_domain.specs.declared.parts.Parts.{Parts}
+use Rattle.vw_stmt.specs.declared.operands.Var.{Var}
+use Rattle.vw_lift.specs.Lifted.{steps, flow_of}
+use Rattle.vw_domain.specs.Abstract.{Abstract, abstract_of}
 use Rattle.vw_state.specs.Code.{BeginsAt}
 use Rattle.vw_state.specs.Context.{code_of}
-use Rattle.vw_state.specs.Post.{destinations, begins}
+use Rattle.vw_state.specs.Post.{table_targets, destinations, form_behind, begins}
+use Rattle.vw_state.proofs.EdgeStates.{read_edges}
 use Rattle.vw_state.proofs.Sites.{site_code, code_size}
 use Rattle.vw_state.proofs.edges.post_of_code.Goals as goal
 
-pub returns-in-Some-clause-edges : goal.returns-in-Some-clause-edges
-returns-in-Some-clause-edges c = λ f is sites.
+pub returns-clause-edges : goal.returns-clause-edges
+returns-clause-edges c = λ f is.
+    let targets : Var → Abstract → List ℕ = destinations f in
+    let at = c.args.at in
+    let state = c.args.state.now in
+    let i = c.in-Some.insn in
+    let next = at + c.in-Some.len in
     let code : c.as_bytes-code.result.now ≡ code_of f = c.as_bytes-code.ensures.same ∙ (c.requires.code ∙ site_code f c.args.site.now is) in
     let bytes : IsBytes (code_of f) = subst IsBytes code c.as_bytes-code.ensures.bytes in
-    let stands = subst (λ (b : List ℕ). BeginsAt b c.args.at c.in-Some.insn c.in-Some.len) code c.in-Some.ensures.found.begins in
-    let edges = c.edges_are_post.ensures.only f (destinations f) c.args.at c.args.state.now _ bytes (begins c.in-Some.insn c.in-Some.len stands) in
-    on_ok_weaker c.append_edges.result (λ e. e ∙ ap (λ (es : List (ℕ × Parts)). c.args.out.now ++ es) edges) (c.append_edges.ensures.ok f is)
+    let stands = subst (λ (b : List ℕ). BeginsAt b at i c.in-Some.len) code c.in-Some.ensures.found.begins in
+    let edges = c.edges_are_post.ensures.only f targets at state _ bytes (begins i c.in-Some.len stands) in
+    let flow : c.last_flow-flow.result ≡ flow_of i = c.last_flow-flow.ensures (steps i) (flow_of i) (c.as_slice.ensures.items ∙ c.lift-stmts.ensures.list) in
+    let behind : abstract_of c.go_behind.new.state ≡ form_behind f next i state =
+    c.in_ok-go_behind.ensures.form f i is (c.as_slice-2.ensures.items ∙ c.lift-stmts.ensures.list) ∙ ap (form_behind f next i) c.in_ok-behind.ensures in
+    on_ok_weaker c.append_flow.result
+    (λ e. read_edges f targets next i state (abstract_of c.go_behind.new.state) c.last_flow-flow.result c.args.out.now c.append_flow.new.out _ behind flow edges e)
+    (c.append_flow.ensures.ok f targets is (λ src jumps. ap (table_targets f) (sym (c.table_told-table.ensures src jumps))))
 
-pub overflow_add-at : goal.overflow_add-at
-overflow_add-at c =
+pub overflow_add-next : goal.overflow_add-next
+overflow_add-next c =
     let site = c.args.site.now in
     let same = c.as_bytes-code.ensures.same ∙ c.requires.code in
     let short : length c.as_bytes-code.result.now ≤ site.size = subst (λ (code : List ℕ). length code ≤ site.size) (sym same) (code_size site.image.now site.entry site.size) in

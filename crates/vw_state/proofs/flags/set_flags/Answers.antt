@@ -9,7 +9,7 @@ pub returns-in-None-clause-form : goal.returns-in-None-clause-form
 returns-in-None-clause-form c = rw c.in-None.is c.clear_flags.ensures.form
 
 pub returns-in-None-clause-fits : goal.returns-in-None-clause-fits
-returns-in-None-clause-fits c = c.clear_flags.ensures.fits _ c.requires.fits
+returns-in-None-clause-fits c = c.clear_flags.ensures.fits _
 
 pub returns-in_ok-compare-in-Some-clause-form : goal.returns-in_ok-compare-in-Some-clause-form
 returns-in_ok-compare-in-Some-clause-form c =

@@ -18,7 +18,7 @@ returns-in_ok-call_probe-clause-ok c = λ f is.
     let st = abstract_of c.args.state in
     on_ok_weaker c.append.result
     (λ e. e ∙ ap (λ (s : Abstract). c.args.out.now ++ (c.args.next, state_of s) ∷ []) (sym (by_probe f c.args.next c.args.rel st calls)))
-    (c.append.ensures.ok c.args.site.now.bounds.now (after_probe st) (c.in_ok-call_probe.ensures.fits c.args.site.now.bounds.now c.requires.fits) c.in_ok-call_probe.ensures.ok)
+    (c.append.ensures.ok (after_probe st) c.in_ok-call_probe.ensures.ok)
 
 pub returns-else-calls_probe-clause-ok : goal.returns-else-calls_probe-clause-ok
 returns-else-calls_probe-clause-ok c = λ f is.
@@ -29,4 +29,4 @@ returns-else-calls_probe-clause-ok c = λ f is.
     let st = abstract_of c.args.state in
     on_ok_weaker c.append_after_call.result
     (λ e. e ∙ ap (λ (s : Abstract). c.args.out.now ++ (c.args.next, state_of s) ∷ []) (sym (by_function f c.args.next c.args.rel st calls)))
-    (c.append_after_call.ensures.ok c.args.site.now.bounds.now c.requires.fits)
+    c.append_after_call.ensures.ok

@@ -5,6 +5,6 @@ use Rattle.vw_state.specs.Post.{edge_to, with_state}
 use Rattle.vw_state.proofs.flow_edges.append_behind.Goals as goal
 
 pub returns-in-Some-clause-ok : goal.returns-in-Some-clause-ok
-returns-in-Some-clause-ok c = λ bounds fits.
+returns-in-Some-clause-ok c =
     let at : Option ℕ → Type 0 = λ to. OnOk c.append.result (c.append.new.out ≡ c.args.out.now ++ map with_state (edge_to to (finish (abstract_of c.args.state)))) in
-    subst at (sym c.in-Some.is) (c.append.ensures.ok bounds (finish (abstract_of c.args.state)) (c.finish.ensures.fits bounds fits) c.finish.ensures.form)
+    subst at (sym c.in-Some.is) (c.append.ensures.ok (finish (abstract_of c.args.state)) c.finish.ensures.form)

@@ -5,18 +5,10 @@ use Rattle.std.proofs.Math.Seq.{take-append_seam}
 use Rattle.vw_domain.specs.declared.parts.Parts.{Parts}
 use Rattle.vw_domain.specs.Abstract.{abstract_of}
 use Rattle.vw_domain.specs.Branches.{rule_at}
-use Rattle.vw_domain.specs.State.{Fits}
 use Rattle.vw_state.specs.Post.{inside, relative_point, branch_edge, with_state}
 use Rattle.vw_state.proofs.EdgeStates.{branch_edges}
 use Rattle.vw_state.proofs.Sites.{function_of, is_site_of}
 use Rattle.vw_state.proofs.flow_edges.append_branch.Goals as goal
-
-pub append_edge-requires-clause-fits : goal.append_edge-requires-clause-fits
-append_edge-requires-clause-fits c =
-    subst (λ (s : Parts). Fits c.args.site.now.bounds.now s) (sym c.in_ok-first.ensures) (c.finish.ensures.fits c.args.site.now.bounds.now c.requires.fits)
-
-pub append_edge-second-requires-clause-fits : goal.append_edge-second-requires-clause-fits
-append_edge-second-requires-clause-fits c = c.finish.ensures.fits c.args.site.now.bounds.now c.requires.fits
 
 pub returns-in-Err-clause-err : goal.returns-in-Err-clause-err
 returns-in-Err-clause-err c =
@@ -33,7 +25,7 @@ returns-in-Err-clause-err c =
     ∙ (ap (λ (list : List (ℕ × Parts)). take (length out) list) back ∙ take-append_seam out edges))
 
 pub returns-in-Ok-clause-ok : goal.returns-in-Ok-clause-ok
-returns-in-Ok-clause-ok c = λ f is.
+returns-in-Ok-clause-ok c = λ f targets is.
     let next = c.args.next in
     let cond = c.args.cond in
     let fact = c.fact-fact.result in
@@ -46,4 +38,4 @@ returns-in-Ok-clause-ok c = λ f is.
     let at : Parts → Type 0 = λ s. c.append_edge.new.out ≡ c.args.out.now ++ map with_state (branch_edge f next (abstract_of s) (rule_at cond true fact) to) in
     let first = subst at c.in_ok-first.ensures mid in
     let second = c.in-Ok.ensures.ok f next (rule_at cond false fact) is c.told_at-told.ensures.told in
-    branch_edges f next cond c.args.rel (abstract_of c.args.state) (abstract_of c.finish.new.self) fact to c.args.out.now c.append_edge.new.out c.append_edge-second.new.out c.finish.ensures.form c.fact-fact.ensures target first second
+    branch_edges f targets next cond c.args.rel (abstract_of c.args.state) (abstract_of c.finish.new.self) fact to c.args.out.now c.append_edge.new.out c.append_edge-second.new.out c.finish.ensures.form c.fact-fact.ensures target first second

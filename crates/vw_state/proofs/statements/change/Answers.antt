@@ -1,4 +1,4 @@
-use Rattle.std.proofs.Common.{◌≡◌, ℕ, None, sym, subst, ap, ◌∙◌}
+use Rattle.std.proofs.Common.{ℕ, None, sym, subst, ap, ◌∙◌}
 use Rattle.vw_stack.specs.declared.offset.Offset.TheVariants as offset
 use Rattle.vw_values.specs.Values.{IsAmong}
 use Rattle.vw_domain.specs.declared.registers.Register.{Register}
@@ -17,8 +17,8 @@ returns-in-Set-clause-form c =
     rw c.in-Set.is (c.put.ensures.form ∙ ap (λ (k : Register). write (abstract_of c.args.state.now) (index_of c.in-Set.dst) None k.value k.offset) c.plain-known.ensures)
 
 pub returns-in-Set-clause-fits : goal.returns-in-Set-clause-fits
-returns-in-Set-clause-fits c =
-    c.put.ensures.fits _ c.requires.fits (subst (λ (k : Register). IsAmong c.args.site.now.bounds.now k.value) (sym c.plain-known.ensures) tt)
+returns-in-Set-clause-fits c = λ fits.
+    c.put.ensures.fits _ fits (subst (λ (k : Register). IsAmong c.args.site.now.bounds.now k.value) (sym c.plain-known.ensures) tt)
 
 pub returns-in_ok-copy_register-in-Copy-clause-form : goal.returns-in_ok-copy_register-in-Copy-clause-form
 returns-in_ok-copy_register-in-Copy-clause-form c =
@@ -44,46 +44,46 @@ returns-in-Narrow-clause-form c =
     rw c.in-Narrow.is (c.put-in-Narrow.ensures.form ∙ ap (λ (k : Register). write (abstract_of c.args.state.now) (index_of c.in-Narrow.dst) None k.value k.offset) c.narrowed-known.ensures.is)
 
 pub returns-in-Narrow-clause-fits : goal.returns-in-Narrow-clause-fits
-returns-in-Narrow-clause-fits c = c.put-in-Narrow.ensures.fits _ c.requires.fits c.narrowed-known.ensures.known.1
+returns-in-Narrow-clause-fits c = λ fits. c.put-in-Narrow.ensures.fits _ fits (c.narrowed-known.ensures.among fits)
 
 pub returns-in-Sum-clause-form : goal.returns-in-Sum-clause-form
 returns-in-Sum-clause-form c =
     rw c.in-Sum.is (c.put-in-Sum.ensures.form ∙ ap (λ (k : Register). write (abstract_of c.args.state.now) (index_of c.in-Sum.dst) None k.value k.offset) (c.summed-known.ensures.is c.args.next))
 
 pub returns-in-Sum-clause-fits : goal.returns-in-Sum-clause-fits
-returns-in-Sum-clause-fits c = c.put-in-Sum.ensures.fits _ c.requires.fits c.summed-known.ensures.known.1
+returns-in-Sum-clause-fits c = λ fits. c.put-in-Sum.ensures.fits _ fits (c.summed-known.ensures.among fits)
 
 pub returns-in-Lea-clause-form : goal.returns-in-Lea-clause-form
 returns-in-Lea-clause-form c =
     rw c.in-Lea.is (c.put-in-Lea.ensures.form ∙ ap (λ (k : Register). write (abstract_of c.args.state.now) (index_of c.in-Lea.dst) None k.value k.offset) c.address_known-known.ensures.is)
 
 pub returns-in-Lea-clause-fits : goal.returns-in-Lea-clause-fits
-returns-in-Lea-clause-fits c = c.put-in-Lea.ensures.fits _ c.requires.fits c.address_known-known.ensures.known.1
+returns-in-Lea-clause-fits c = λ fits. c.put-in-Lea.ensures.fits _ fits (c.address_known-known.ensures.among fits)
 
 pub returns-in-And-clause-form : goal.returns-in-And-clause-form
 returns-in-And-clause-form c =
     rw c.in-And.is (c.put-in-And.ensures.form ∙ ap (λ (k : Register). write (abstract_of c.args.state.now) (index_of c.in-And.dst) None k.value k.offset) c.masked-known.ensures.is)
 
 pub returns-in-And-clause-fits : goal.returns-in-And-clause-fits
-returns-in-And-clause-fits c = c.put-in-And.ensures.fits _ c.requires.fits c.masked-known.ensures.known.1
+returns-in-And-clause-fits c = λ fits. c.put-in-And.ensures.fits _ fits (c.masked-known.ensures.among fits)
 
 pub returns-in-Shl-clause-form : goal.returns-in-Shl-clause-form
 returns-in-Shl-clause-form c =
     rw c.in-Shl.is (c.put-in-Shl.ensures.form ∙ ap (λ (k : Register). write (abstract_of c.args.state.now) (index_of c.in-Shl.dst) None k.value k.offset) c.shifted-known.ensures.is)
 
 pub returns-in-Shl-clause-fits : goal.returns-in-Shl-clause-fits
-returns-in-Shl-clause-fits c = c.put-in-Shl.ensures.fits _ c.requires.fits c.shifted-known.ensures.known.1
+returns-in-Shl-clause-fits c = λ fits. c.put-in-Shl.ensures.fits _ fits (c.shifted-known.ensures.among fits)
 
 pub returns-in-Open-clause-form : goal.returns-in-Open-clause-form
 returns-in-Open-clause-form c =
     rw c.in-Open.is (c.put-in-Open.ensures.form ∙ ap (λ (k : Register). write (abstract_of c.args.state.now) (index_of c.in-Open.dst) None k.value k.offset) c.opened-known.ensures.is)
 
 pub returns-in-Open-clause-fits : goal.returns-in-Open-clause-fits
-returns-in-Open-clause-fits c = c.put-in-Open.ensures.fits _ c.requires.fits c.opened-known.ensures.known.1
+returns-in-Open-clause-fits c = λ fits. c.put-in-Open.ensures.fits _ fits (c.opened-known.ensures.among fits)
 
 pub returns-in-Choose-clause-form : goal.returns-in-Choose-clause-form
 returns-in-Choose-clause-form c =
     rw c.in-Choose.is (c.put-in-Choose.ensures.form ∙ ap (λ (k : Register). write (abstract_of c.args.state.now) (index_of c.in-Choose.dst) None k.value k.offset) (c.chosen-known.ensures.is c.args.next))
 
 pub returns-in-Choose-clause-fits : goal.returns-in-Choose-clause-fits
-returns-in-Choose-clause-fits c = c.put-in-Choose.ensures.fits _ c.requires.fits c.chosen-known.ensures.known.1
+returns-in-Choose-clause-fits c = λ fits. c.put-in-Choose.ensures.fits _ fits (c.chosen-known.ensures.among fits)

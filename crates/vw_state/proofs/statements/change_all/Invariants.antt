@@ -11,5 +11,5 @@ abbrev pub invariant-loop-stmt : goal.invariant-loop-stmt
 invariant-loop-stmt l = record {
   form : applies (equation_site l.site l.next) (drop l.stmt-index l.stmts) (abstract_of l.state) ≡ applies (equation_site l.site l.next) l.stmts (abstract_of l.fn.state);
   lifted : AllByRecursion IsLifted (drop l.stmt-index l.stmts);
-  fits : Fits l.site.bounds.now l.state;
+  fits : Fits l.site.bounds.now l.fn.state → Fits l.site.bounds.now l.state;
 }

@@ -17,10 +17,10 @@ returns-in_ok-store-in-Frame-clause-form c =
     (λ v. subst (λ (z : ℤ). abstract_of c.store.new.self ≡ store_frame (abstract_of c.args.state.now) z c.args.count (content_size c.args.content) (content_source c.args.content) (content_value v c.args.content)) read (c.in_ok-store-in-Frame.ensures.ok v))
 
 pub returns-in_ok-store-in-Frame-clause-fits : goal.returns-in_ok-store-in-Frame-clause-fits
-returns-in_ok-store-in-Frame-clause-fits c = c.in_ok-store-in-Frame.ensures.fits _ c.requires.fits c.requires.among
+returns-in_ok-store-in-Frame-clause-fits c = c.in_ok-store-in-Frame.ensures.fits _
 
 pub returns-in-Unknown-clause-form : goal.returns-in-Unknown-clause-form
 returns-in-Unknown-clause-form c = rw c.in-Unknown.is (λ v. c.lose_slots.ensures.form)
 
 pub returns-in-Unknown-clause-fits : goal.returns-in-Unknown-clause-fits
-returns-in-Unknown-clause-fits c = c.lose_slots.ensures.fits _ c.requires.fits
+returns-in-Unknown-clause-fits c = λ fits among. c.lose_slots.ensures.fits _ fits

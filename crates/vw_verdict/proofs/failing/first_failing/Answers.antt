@@ -1,15 +1,9 @@
-use Rattle.std.proofs.Common.{◌≡◌, ◌∙◌, ap, subst, sym, Some, ℕ}
+use Rattle.std.proofs.Common.{◌≡◌, ◌∙◌, ap, sym, Some}
 use Rattle.std.specs.List.{slice_get}
 use Rattle.std.proofs.lemmas.Option.{slice_get-get_or}
-use Rattle.vw_domain.specs.State.{Fits}
-use Rattle.vw_state.specs.declared.tables.PointState.{PointState}
 use Rattle.vw_state.specs.Context.{context_of}
 use Rattle.vw_verdict.proofs.Points.{passes_none, passes_more, passes_all, fails_first}
 use Rattle.vw_verdict.proofs.failing.first_failing.Goals as goal
-
-pub check_of_code-requires-clause-fits : goal.check_of_code-requires-clause-fits
-check_of_code-requires-clause-fits c =
-    subst (λ (p : PointState). Fits c.args.site.now.bounds.now p.state) (sym c.point-item.is) (c.requires.fit c.loop-point.point-index c.point-item.result c.loop-point-test.true)
 
 pub loop-point-init : goal.loop-point-init
 loop-point-init c = λ f listed is. passes_none (context_of c.args.loaded.now f) c.args.states.now

@@ -1,0 +1,4 @@
+mod Order
+mod Search
+mod Points
+mod Tables

@@ -1,0 +1,42 @@
+use Rattle.std.proofs.Common.{◌≡◌, ◌∙◌, ap, subst, sym, refl, Some}
+use Rattle.std.specs.List.{slice_get}
+use Rattle.std.proofs.lemmas.Option.{slice_get-get_or}
+use Rattle.vw_domain.specs.declared.parts.Parts.{Parts}
+use Rattle.vw_state.specs.Context.{context_of}
+use Rattle.vw_state.specs.Post.{destinations}
+use Rattle.vw_state.specs.Solution.{Lands}
+use Rattle.vw_recheck.proofs.Points.{false_true, safe_none, safe_more, safe_all, unordered_first, begins_first, fails_first}
+use Rattle.vw_recheck.proofs.table.lowest_in.Goals as goal
+
+pub returns-then-not-points_ascend : goal.returns-then-not-points_ascend
+returns-then-not-points_ascend c = λ f listed is. unordered_first (context_of c.args.loaded.now f) c.args.states.now (λ ascend. false_true (c.if-not-points_ascend.ensures.1 ascend))
+
+pub returns-then-not-lands : goal.returns-then-not-lands
+returns-then-not-lands c = λ f listed is. begins_first (context_of c.args.loaded.now f) c.args.states.now
+    (λ lands. false_true ((c.if-not-lands.ensures (context_of c.args.loaded.now f) is).1 (subst (λ (s : Parts). Lands (context_of c.args.loaded.now f) c.args.states.now (0, s)) (sym c.entry_state.ensures) lands)))
+
+pub returns-in-Some : goal.returns-in-Some
+returns-in-Some c = λ f listed is.
+    let item = c.point-item.result in
+    let there : slice_get c.args.states.now c.loop-point.point-index ≡ Some item = slice_get-get_or c.args.states.now c.loop-point.point-index item c.loop-point-test.true ∙ ap Some (sym c.point-item.is) in
+    fails_first (context_of c.args.loaded.now f) c.args.states.now c.loop-point.point-index item c.in-Some.number
+    (c.if-not-points_ascend.ensures.0 refl) (subst (λ (s : Parts). Lands (context_of c.args.loaded.now f) c.args.states.now (0, s)) c.entry_state.ensures ((c.if-not-lands.ensures (context_of c.args.loaded.now f) is).0 refl))
+    there (c.loop-point.invariant f listed is) (rw c.in-Some.is at (c.in_ok-number.ensures f listed is))
+
+pub loop-point-init : goal.loop-point-init
+loop-point-init c = λ f listed is. safe_none (context_of c.args.loaded.now f) c.args.states.now
+
+pub loop-point-preserved : goal.loop-point-preserved
+loop-point-preserved c = λ f listed is.
+    let item = c.point-item.result in
+    let there : slice_get c.args.states.now c.loop-point.point-index ≡ Some item = slice_get-get_or c.args.states.now c.loop-point.point-index item c.loop-point-test.true ∙ ap Some (sym c.point-item.is) in
+    safe_more (context_of c.args.loaded.now f) c.args.states.now c.loop-point.point-index item
+    there (c.loop-point.invariant f listed is) (rw c.in_default.is at (c.in_ok-number.ensures f listed is))
+
+pub returns : goal.returns
+returns c = λ f listed is.
+    let context = context_of c.args.loaded.now f in
+    safe_all context c.args.states.now c.loop-point.point-index
+    (λ at state edges post. c.edges_are_post.ensures.only context (destinations context) at state edges (c.codes_are_bytes.ensures f) post)
+    (c.code_is_short.ensures context.image context.entry context.size)
+    c.loop-point-test.false (c.if-not-points_ascend.ensures.0 refl) (subst (λ (s : Parts). Lands context c.args.states.now (0, s)) c.entry_state.ensures ((c.if-not-lands.ensures context is).0 refl)) (c.loop-point.invariant f listed is)

@@ -1,0 +1,68 @@
+ghost use Rattle.std.specs.Prelude.{◌≡◌, ◌↔◌, Some, None, IsTrue, IfSome, IfNone};
+ghost use Rattle.std.specs.List.{All};
+ghost use Rattle.vw_state.specs.Context.{Context, IsSite};
+ghost use Rattle.vw_state.specs.Solution.{Lands};
+ghost use Rattle.vw_state.specs.Tables.{state_of};
+ghost use Rattle.vw_recheck.specs.Places.{PointsAscend};
+
+use vw_domain::State;
+use vw_lattice::Lattice;
+use vw_state::{PointState, Site};
+
+/// Whether the points of a table ascend, none of them twice. Takes no memory.
+pub(crate) fn points_ascend(states: &[PointState]) -> bool
+    ensures { IsTrue result ↔ PointsAscend 0 states.now }
+{
+    let mut from = 0u64;
+    for point in states {
+        if (point.at as u64) < from {
+            return false;
+        }
+        from = point.at as u64 + 1;
+    }
+    true
+}
+
+// The state that a table gives a point, found by halves.
+fn state_at(states: &[PointState], at: u32) -> Option<&State>
+    requires { PointsAscend 0 states.now }
+    ensures found { IfSome result (λ state. state_of states.now at ≡ Some state.now) }
+    ensures none { IfNone result (state_of states.now at ≡ None) }
+{
+    let index = states.partition_point(|point| point.at < at);
+    if index < states.len() && states[index].at == at {
+        Some(&states[index].state)
+    } else {
+        None
+    }
+}
+
+/// Whether a state that comes to a point lands below the one that a table gives it: the table gives one, its bounds are
+/// the function's, and it is greater or equal. Takes no memory.
+pub(crate) fn lands(site: &Site, states: &[PointState], at: u32, state: &State) -> bool
+    requires { PointsAscend 0 states.now }
+    ensures { (f : Context) → IsSite f site.now
+        → (IsTrue result ↔ Lands f states.now (at, state.now)) }
+{
+    match state_at(states, at) {
+        Some(cover) => {
+            cover.is_state();
+            cover.fits(site.bounds) && state.leq(cover)
+        }
+        None => false,
+    }
+}
+
+/// Whether each of some edges lands. Takes no memory.
+pub(crate) fn all_land(site: &Site, states: &[PointState], edges: &[(u32, State)]) -> bool
+    requires { PointsAscend 0 states.now }
+    ensures { (f : Context) → IsSite f site.now
+        → (IsTrue result ↔ All (Lands f states.now) edges.now) }
+{
+    for edge in edges {
+        if !lands(site, states, edge.0, &edge.1) {
+            return false;
+        }
+    }
+    true
+}

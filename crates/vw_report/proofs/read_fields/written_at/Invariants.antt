@@ -1,0 +1,8 @@
+use Rattle.std.proofs.Common.{◌≡◌, ◌-◌, ◌∷◌, [], length}
+use Rattle.vw_report.specs.Items.{read_many}
+use Rattle.vw_report.specs.Grammar.{range}
+use Rattle.vw_report.proofs.ItemLoops.{with_front}
+use Rattle.vw_report.proofs.read_fields.written_at.Given as goal
+
+abbrev pub invariant-loop-i : goal.invariant-loop-i
+invariant-loop-i l = with_front l.items (read_many (length l.bytes - l.i) (32 ∷ 119 ∷ []) range l.rest) ≡ read_many (length l.bytes) (32 ∷ 119 ∷ []) range l.bytes

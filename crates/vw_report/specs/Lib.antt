@@ -1,0 +1,9 @@
+pub mod ValueText
+pub mod StateText
+pub mod Lines
+pub mod ReportText
+pub mod Items
+pub mod NumberItems
+pub mod Grammar
+pub mod Reports
+pub mod Listings
