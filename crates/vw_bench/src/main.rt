@@ -1,11 +1,17 @@
 //! Decodes the bytes of standard input one after the other, and where they spell nothing goes on at the next
 //! byte. It prints how many instructions there are, and how many of them are the same as the one before, so
 //! that none is decoded for nothing. A word says how often all this is done: a clock beside it sees how long
-//! the decoder takes alone.
+//! the decoder takes alone. A word behind it, make, copy, join or compare, has this done with abstract states
+//! in place of the decoding, a hundred thousand times a round.
 #![tactic(auto)]
 
+mod states;
+
+use states::{Work, round, work_of};
+use std::alloc::Global;
 use std::env;
 use std::io::{self, Read};
+use vw_bits::OutOfMemory;
 use vw_decode::decode;
 use vw_insn::{Insn, same_insn};
 
@@ -17,7 +23,19 @@ struct Counts {
 }
 
 fn main(rt: HostRuntime) -> io::Result<()> {
-    let rounds = rounds(&rt)?;
+    let (rounds, work) = words(&rt)?;
+    match work {
+        Some(work) => match rounds_of(rt.alloc(), work, rounds) {
+            Ok(found) => println!(rt; "{found}")?,
+            Err(OutOfMemory) => println!(rt; "out of memory")?,
+        },
+        None => decode_input(&rt, rounds)?,
+    }
+    Ok(())
+}
+
+// Decodes standard input so many times.
+fn decode_input(rt: &HostRuntime, rounds: u32) -> io::Result<()> {
     let mut bytes = Vec::new(rt.alloc());
     rt.reader().read_to_end(&mut bytes)?;
     let mut counts = Counts {
@@ -32,13 +50,24 @@ fn main(rt: HostRuntime) -> io::Result<()> {
     Ok(())
 }
 
-// How often, by the word behind the program's name: once where there is none, or it is no number.
-fn rounds(rt: &HostRuntime) -> io::Result<u32> {
-    let mut rounds = 1;
-    for word in env::args(rt)?.skip(1) {
-        rounds = word.parse::<u32>().unwrap_or(1);
+// Does so many rounds of the work, and counts what it finds.
+fn rounds_of(alloc: Global, work: Work, rounds: u32) -> Result<u64, OutOfMemory> {
+    let mut found: u64 = 0;
+    for _ in 0..rounds {
+        found = found.wrapping_add(round(alloc, work)?);
     }
-    Ok(rounds)
+    Ok(found)
+}
+
+// The words behind the program's name: how often, once where it is no number, and what is done with states.
+fn words(rt: &HostRuntime) -> io::Result<(u32, Option<Work>)> {
+    let mut rounds = 1;
+    let mut work = None;
+    for word in env::args(rt)?.skip(1) {
+        rounds = word.parse::<u32>().unwrap_or(rounds);
+        work = work_of(word.as_str()).or(work);
+    }
+    Ok((rounds, work))
 }
 
 fn walk(bytes: &[u8], before: Counts) -> Counts {

@@ -6,3 +6,4 @@ mod Passing
 mod Readings
 mod Rest
 mod Points
+mod NeverFailing

@@ -3,3 +3,4 @@ pub mod Accesses
 pub mod Checks
 pub mod Safe
 pub mod Modules
+pub mod Harmless

@@ -1,4 +1,4 @@
-ghost use Rattle.std.specs.Prelude.{◌≡◌, ◌≤◌, length, Contains, IfOk};
+ghost use Rattle.std.specs.Prelude.{◌≡◌, ◌≤◌, length, true, Contains, IfOk};
 ghost use Rattle.std.specs.List.{AllByRecursion};
 ghost use Rattle.vw_insn.specs.Listed.{IsListed};
 ghost use Rattle.vw_stmt.specs.Lifted.{IsLifted};
@@ -9,7 +9,9 @@ ghost use Rattle.vw_state.specs.Code.{code_at};
 ghost use Rattle.vw_state.specs.Context.{Context, context_of, IsSite};
 ghost use Rattle.vw_checks.specs.Checks.{IsLowestOf, StmtsFail, InsnFails, LowestFailing};
 ghost use Rattle.vw_checks.specs.Functions.{IsFunctionOf};
+ghost use Rattle.vw_checks.specs.Harmless.{never_fail_behind};
 
+use crate::harmless::never_fail_behind;
 use crate::lowest::lower;
 use crate::statements::failing_stmt;
 use std::alloc::Global;
@@ -107,12 +109,54 @@ fn failing_insn(
         → IfOk result (IsLowestOf (InsnFails f next state.now insn.now)) }
 {
     let stmts = lift(alloc, insn, 0, 0);
-    let copy = state.copy()?;
-    failing_stmts(loaded, site, stmts.as_slice(), next, copy)
+    failing_stmts(loaded, site, stmts.as_slice(), next, state)
 }
 
-// The lowest number of the checks that fail at some statements, the first of them with this state before it.
+// The lowest number of the checks that fail at some statements, the first of them with this state before it. The state is
+// copied and changed only where a check may fail behind the first of them.
 fn failing_stmts(
+    loaded: &Module,
+    site: &Site,
+    stmts: &[Stmt],
+    next: u32,
+    state: &State,
+) -> Result<Option<u8>, OutOfMemory>
+    requires whole { IsWhole loaded.now }
+    requires few { length site.now.tables.now ≤ 64 }
+    requires lifted { AllByRecursion IsLifted stmts.now }
+    ensures { (f : Context) → IsFunctionOf loaded.now f → IsSite f site.now
+        → IfOk result (IsLowestOf (StmtsFail f next (abstract_of state.now) stmts.now)) }
+{
+    if never_fail_behind(stmts) {
+        return Ok(failing_first(loaded, site, stmts, next, state));
+    }
+    let copy = state.copy()?;
+    failing_each(loaded, site, stmts, next, copy)
+}
+
+// The lowest number of the checks that fail at the first of some statements, behind which none can fail.
+fn failing_first(
+    loaded: &Module,
+    site: &Site,
+    stmts: &[Stmt],
+    next: u32,
+    state: &State,
+) -> Option<u8>
+    requires whole { IsWhole loaded.now }
+    requires few { length site.now.tables.now ≤ 64 }
+    requires lifted { AllByRecursion IsLifted stmts.now }
+    requires behind { never_fail_behind stmts.now ≡ true }
+    ensures { (f : Context) → IsFunctionOf loaded.now f → IsSite f site.now
+        → IsLowestOf (StmtsFail f next (abstract_of state.now) stmts.now) result }
+{
+    match stmts {
+        [] => None,
+        [first, ..] => failing_stmt(loaded, site, first, next, state),
+    }
+}
+
+// The lowest number of the checks that fail at some statements, each with the state before it.
+fn failing_each(
     loaded: &Module,
     site: &Site,
     stmts: &[Stmt],

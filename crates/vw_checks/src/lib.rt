@@ -3,6 +3,7 @@
 
 mod accesses;
 mod checks;
+mod harmless;
 mod laws;
 mod lowest;
 mod readable;
@@ -15,5 +16,7 @@ pub use laws::{
     stable_rounds_are_safe, stops_are_checks,
 };
 
+#[cfg(test)]
+mod table_tests;
 #[cfg(test)]
 mod tests;

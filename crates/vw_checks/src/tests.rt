@@ -1,4 +1,5 @@
 ghost use Rattle.std.specs.Prelude.{◌≤◌, length};
+ghost use Rattle.vw_insn.specs.Listed.{IsListed};
 ghost use Rattle.vw_layout.specs.Layout.{IsWhole};
 
 use crate::check;
@@ -6,13 +7,18 @@ use std::alloc::{AllocError, Global};
 use std::test::Fail;
 use vw_bits::List;
 use vw_domain::{State, entry_state};
+use vw_insn::Insn;
 use vw_layout::Module;
 use vw_lift::lift;
-use vw_state::{Site, apply, bounds_of, code_of, instruction_at, lengths_of, tables_of};
+use vw_solver::Edges;
+use vw_state::{
+    Site, apply, bounds_of, code_of, flow_of, instruction_at, lengths_of, post, tables_of,
+};
+use vw_stmt::Flow;
 use vw_values::{Value, Via};
 
 /// A number of so many bytes at an offset: (offset, bytes, number).
-type Patch = (usize, usize, u64);
+pub type Patch = (usize, usize, u64);
 
 /// A file of 440 bytes with a function at address 376: one PT_LOAD with R and X, all of the file at address 0; a null
 /// symbol and one of the function; strings; the headers of three sections; up to 64 bytes of code.
@@ -452,7 +458,8 @@ const REGISTER_CASES: [RegisterCase; 42] = [
     ),
 ];
 
-fn patch(bytes: &mut Vec<u8>, patches: &[Patch]) {
+/// Puts these numbers, the lowest byte first.
+pub fn patch(bytes: &mut Vec<u8>, patches: &[Patch]) {
     for (at, size, number) in patches {
         let digits = number.to_le_bytes();
         for index in 0..*size {
@@ -484,7 +491,7 @@ fn file(alloc: Global, code: &[u8], size: u64) -> Result<List<u8>, AllocError> {
 
 /// The state at an entry with these values in rsi and rdi. `None` also where they are no values.
 fn entry_with(alloc: Global, rsi: Value, rdi: Value) -> Option<State> {
-    let mut parts = entry_state(alloc).parts().ok()?;
+    let mut parts = entry_state(alloc).ok()?.parts().ok()?;
     let mut values = List::new(alloc);
     for (register, value) in parts.values.as_slice().iter().enumerate() {
         let held = match register {
@@ -498,8 +505,34 @@ fn entry_with(alloc: Global, rsi: Value, rdi: Value) -> Option<State> {
     State::of(alloc, &parts).ok()
 }
 
-/// The first point of a function at which a check fails, with its number, from a state at its start on along its code.
-/// `None` where memory is refused.
+/// The state with which control goes on from a point to the next instruction, behind a transfer by the last edge.
+/// `Some(None)` where it does not go there, and `None` where memory is refused.
+fn state_at_next(
+    alloc: Global,
+    site: &Site,
+    at: u32,
+    insn: &Insn,
+    next: u32,
+    before: State,
+) -> Option<Option<State>>
+    requires few { length site.now.tables.now ≤ 64 }
+    requires listed { IsListed insn.now }
+{
+    if let Flow::Next = flow_of(alloc, insn) {
+        let mut state = before;
+        apply(site, next, lift(alloc, insn, 0, 0).as_slice(), &mut state).ok()?;
+        return Some(Some(state));
+    }
+    let mut edges: Edges<State> = Edges::new(alloc);
+    post(alloc, site, at, &before, &mut edges).ok()?;
+    match edges.pop() {
+        Some((to, state)) => Some(if to == next { Some(state) } else { None }),
+        None => Some(None),
+    }
+}
+
+/// The first point of a function at which a check fails, with its number, from a state at its start on along its code, as
+/// far as control goes on to the next instruction. `None` where memory is refused.
 fn walk(alloc: Global, loaded: &Module, site: &Site, start: State) -> Option<Option<(u32, u8)>>
     requires whole { IsWhole loaded.now }
     requires few { length site.now.tables.now ≤ 64 }
@@ -507,7 +540,7 @@ fn walk(alloc: Global, loaded: &Module, site: &Site, start: State) -> Option<Opt
     let code = site.code();
     let mut state = start;
     let mut at = 0;
-    for _ in 0..16 {
+    for _ in 0..32 {
         if site.size <= at {
             return Some(None);
         }
@@ -515,14 +548,18 @@ fn walk(alloc: Global, loaded: &Module, site: &Site, start: State) -> Option<Opt
             return Some(Some((at, number)));
         }
         let (insn, len) = instruction_at(code, at)?;
-        at = at.saturating_add(len);
-        apply(site, at, lift(alloc, &insn, 0, 0).as_slice(), &mut state).ok()?;
+        let next = at.saturating_add(len);
+        match state_at_next(alloc, site, at, &insn, next, state)? {
+            Some(behind) => state = behind,
+            None => return Some(None),
+        }
+        at = next;
     }
     None
 }
 
 /// The same of the first function of a file. `None` also where there is none.
-fn walked(alloc: Global, bytes: List<u8>, start: State) -> Option<Option<(u32, u8)>> {
+pub fn walked(alloc: Global, bytes: List<u8>, start: State) -> Option<Option<(u32, u8)>> {
     let loaded = Module::read(alloc, bytes).ok()?;
     let tables = tables_of(alloc, &loaded).ok()?;
     let lengths = lengths_of(alloc, &loaded).ok()?;
@@ -547,7 +584,7 @@ fn walked(alloc: Global, bytes: List<u8>, start: State) -> Option<Option<(u32, u
 fn checks_along_code(rt: HostRuntime) -> Result<(), Fail> {
     for (code, failing) in CASES.iter() {
         let bytes = file(rt.alloc(), *code, code.len() as u64)?;
-        let found = walked(rt.alloc(), bytes, entry_state(rt.alloc())).ok_or("check")?;
+        let found = walked(rt.alloc(), bytes, entry_state(rt.alloc())?).ok_or("check")?;
         assert_eq!(rt; found, *failing, "{code:?}");
     }
     Ok(())

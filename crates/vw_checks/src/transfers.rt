@@ -1,10 +1,7 @@
 ghost use Rattle.std.specs.Prelude.{◌≡◌, ◌↔◌, ◌<◌, ◌+◌, ◌+ℤ◌, pos, ℕ, ℤ, IsTrue};
 ghost use Rattle.vw_layout.specs.Layout.{IsWhole};
 ghost use Rattle.vw_domain.specs.Abstract.{abstract_of};
-ghost use Rattle.vw_domain.specs.Addresses.{value_of};
 ghost use Rattle.vw_domain.specs.Checks.{HasHeapBase, IsTableFn, MayReturn};
-ghost use Rattle.vw_domain.specs.Operands.{index_of};
-ghost use Rattle.vw_insn.specs.Words.{number};
 ghost use Rattle.vw_names.specs.declared.spot.Spot.{Spot};
 ghost use Rattle.vw_stack.specs.declared.offset.Offset.{Offset as OffsetOf};
 ghost use Rattle.vw_values.specs.declared.value.Value.{Value as ValueOf};
@@ -16,10 +13,9 @@ ghost use Rattle.vw_checks.specs.Functions.{IsFunctionOf};
 use crate::accesses::failing_push;
 use crate::lowest::{lower, number_unless, number_where};
 use vw_domain::State;
-use vw_insn::Reg;
 use vw_layout::{CallTarget, Module};
 use vw_stack::Offset;
-use vw_state::{Site, leaves_function};
+use vw_state::{Site, known_of, leaves_function};
 use vw_stmt::{Flow, Var};
 use vw_values::Value;
 
@@ -62,41 +58,6 @@ fn may_enter(target: Option<CallTarget>, state: &State) -> bool
     }
 }
 
-// The number of a register.
-fn register_number(reg: Reg) -> u8
-    ensures number { result ≡ number reg }
-    ensures below { result < 16 }
-{
-    match reg {
-        Reg::Rax => 0,
-        Reg::Rcx => 1,
-        Reg::Rdx => 2,
-        Reg::Rbx => 3,
-        Reg::Rsp => 4,
-        Reg::Rbp => 5,
-        Reg::Rsi => 6,
-        Reg::Rdi => 7,
-        Reg::R8 => 8,
-        Reg::R9 => 9,
-        Reg::R10 => 10,
-        Reg::R11 => 11,
-        Reg::R12 => 12,
-        Reg::R13 => 13,
-        Reg::R14 => 14,
-        Reg::R15 => 15,
-    }
-}
-
-// The value of a register, or of tmp, which counts as number 16.
-fn value_of(state: &State, var: Var) -> Value
-    ensures { result ≡ value_of (abstract_of state.now) (index_of var) }
-{
-    match var {
-        Var::Reg(reg) => state.register(register_number(reg)).value,
-        Var::Tmp => state.register(16).value,
-    }
-}
-
 // Whether a value is the function of an entry of a table, whose tag is known.
 fn is_table_function(value: Value) -> bool
     ensures { IsTrue result ↔ IsTableFn value }
@@ -108,7 +69,7 @@ fn is_table_function(value: Value) -> bool
 fn may_enter_by(src: Var, state: &State) -> bool
     ensures { IsTrue result ↔ MayEnterBy src (abstract_of state.now) }
 {
-    is_table_function(value_of(state, src)) && has_heap_base(state)
+    is_table_function(known_of(state, src).value) && has_heap_base(state)
 }
 
 // Whether a value is what this register held when the function was entered.

@@ -151,8 +151,9 @@ impl State {
         ensures fits { OnOk result ((b : List ℕ) → Fits b self.old → Fits b self.new) }
         ensures err { OnErr result (self.new ≡ self.old) }
     {
-        let offset = self.parts.registers[4].offset;
-        call(&mut self.parts, offset, Gone::Unsaved)?;
+        let parts = &mut *self.parts;
+        let offset = parts.registers[4].offset;
+        call(parts, offset, Gone::Unsaved)?;
         Ok(())
     }
 
@@ -165,11 +166,12 @@ impl State {
         ensures fits { OnOk result ((b : List ℕ) → Fits b self.old → Fits b self.new) }
         ensures err { OnErr result (self.new ≡ self.old) }
     {
-        let count = self.parts.registers[0].value;
-        let offset = self.parts.registers[4].offset;
-        let depth = deeper(count, offset, self.parts.probed);
-        call(&mut self.parts, offset, Gone::Temporary)?;
-        self.parts.probed = depth;
+        let parts = &mut *self.parts;
+        let count = parts.registers[0].value;
+        let offset = parts.registers[4].offset;
+        let depth = deeper(count, offset, parts.probed);
+        call(parts, offset, Gone::Temporary)?;
+        parts.probed = depth;
         Ok(())
     }
 }

@@ -31,8 +31,8 @@ impl State {
         bounds.are_bounds();
         below_is_sound();
         equal_is_sound();
-        let tags = tags_of(&self.parts, comparison);
-        let parts = &mut self.parts;
+        let parts = &mut *self.parts;
+        let tags = tags_of(parts, comparison);
         let in_row = edge_row(
             &mut parts.registers,
             &parts.classes,

@@ -31,7 +31,8 @@ impl State {
             ≡ write (abstract_of self.old) register None known.value known.offset }
         ensures fits { (b : List ℕ) → Fits b self.old → IsAmong b known.value → Fits b self.new }
     {
-        write(&mut self.parts, register, known);
+        let parts = &mut *self.parts;
+        write(parts, register, known);
     }
 
     /// Puts the number of a place that is there into a register, at a distance that fits the place's value. Each value
@@ -48,7 +49,8 @@ impl State {
         ensures fits { OnOk result ((b : List ℕ) → Fits b self.old → Fits b self.new) }
         ensures err { OnErr result (self.new ≡ self.old) }
     {
-        copy_place(&mut self.parts, register, source, offset)?;
+        let parts = &mut *self.parts;
+        copy_place(parts, register, source, offset)?;
         Ok(())
     }
 
@@ -57,8 +59,9 @@ impl State {
         ensures form { abstract_of self.new ≡ set_flags (abstract_of self.old) None Fact.Unknown }
         ensures fits { (b : List ℕ) → Fits b self.old → Fits b self.new }
     {
-        self.parts.classes.leave(Spot::Flags);
-        self.parts.fact = Fact::Unknown;
+        let parts = &mut *self.parts;
+        parts.classes.leave(Spot::Flags);
+        parts.fact = Fact::Unknown;
     }
 
     /// The flags are those of a comparison of `w` bits, 32 or 64, of the number of a place that is there with `k`, which
@@ -72,8 +75,9 @@ impl State {
         ensures fits { OnOk result ((b : List ℕ) → Fits b self.old → Fits b self.new) }
         ensures err { OnErr result (self.new ≡ self.old) }
     {
-        follow_place(&mut self.parts, Spot::Flags, source)?;
-        self.parts.fact = Fact::Compare { w, k };
+        let parts = &mut *self.parts;
+        follow_place(parts, Spot::Flags, source)?;
+        parts.fact = Fact::Compare { w, k };
         Ok(())
     }
 
@@ -83,8 +87,9 @@ impl State {
         ensures form { abstract_of self.new ≡ lose_slots (abstract_of self.old) }
         ensures fits { (b : List ℕ) → Fits b self.old → Fits b self.new }
     {
-        self.parts.classes.leave_slots(LOWEST_KEY, KEYS_END);
-        self.parts.slots.cut_range(LOWEST_KEY, KEYS_END);
+        let parts = &mut *self.parts;
+        parts.classes.leave_slots(LOWEST_KEY, KEYS_END);
+        parts.slots.cut_range(LOWEST_KEY, KEYS_END);
     }
 
     /// After an instruction the register number 16 may hold any number, which nothing else tells of. Takes no memory.

@@ -26,7 +26,7 @@ fn known(value: Value) -> Register
 // A probe of 4,096 bytes keeps rax, writes its return address, and loses slots below rsp.
 #[test]
 fn probes_stacks(rt: HostRuntime) -> Result<(), Fail> {
-    let mut state = entry_state(rt.alloc());
+    let mut state = entry_state(rt.alloc())?;
     state.write(0, known(Value::Const(4096)));
     state.store(-16, 8, Content::Copy(7))?;
     state.call_probe()?;
@@ -39,7 +39,7 @@ fn probes_stacks(rt: HostRuntime) -> Result<(), Fail> {
 
 // An entry of table 2 is in rcx and its tag in rax, which is compared with 7.
 fn compared_tag(alloc: Global) -> Result<State, OutOfMemory> {
-    let mut state = entry_state(alloc);
+    let mut state = entry_state(alloc)?;
     state.write(1, known(Value::EntryPtr(2)));
     state.write(
         0,
@@ -71,7 +71,7 @@ fn takes_tags(rt: HostRuntime) -> Result<(), Fail> {
 #[test]
 fn takes_numbers(rt: HostRuntime) -> Result<(), Fail> {
     let bounds = Bounds::new(rt.alloc(), &[])?;
-    let mut state = entry_state(rt.alloc());
+    let mut state = entry_state(rt.alloc())?;
     let width = Width::W64;
     state.compare(Spot::Reg(2), 64, 7)?;
     assert!(rt; state.fits(&bounds));

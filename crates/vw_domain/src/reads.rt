@@ -107,10 +107,11 @@ impl State {
         ensures { result ≡ (abstract_of self.now).sizes offset }
     {
         let wide = offset + offset;
-        if self.parts.slots.get(wide + 1).is_some() {
+        let parts: &Parts = &self.parts;
+        if parts.slots.get(wide + 1).is_some() {
             return 4;
         }
-        if self.parts.slots.get(wide).is_some() {
+        if parts.slots.get(wide).is_some() {
             return 8;
         }
         0
@@ -122,7 +123,7 @@ impl State {
         requires second { IsFrameSpot b }
         ensures { IsTrue result ↔ ((abstract_of self.now).same a b ≡ true) }
     {
-        let parts = &self.parts;
+        let parts: &Parts = &self.parts;
         is_one(a, b)
             || is_there(parts, a)
                 && is_there(parts, b)
@@ -157,7 +158,8 @@ impl State {
         requires { depth ≤ 2 ^ 32 }
         ensures { self.new ≡ record self.old { probed = max self.old.probed depth } }
     {
-        self.parts.probed = self.parts.probed.max(depth);
+        let parts = &mut *self.parts;
+        parts.probed = parts.probed.max(depth);
     }
 
     /// Adds the bytes of the frame from `low` to `high` - 1 to those that were written. Where memory is refused, the
@@ -170,7 +172,8 @@ impl State {
         ensures others { self.new ≡ record self.old { written = self.new.written } }
         ensures err { OnErr result (self.new ≡ self.old) }
     {
-        self.parts.written.add(low, high)?;
+        let parts = &mut *self.parts;
+        parts.written.add(low, high)?;
         Ok(())
     }
 }

@@ -24,12 +24,19 @@ fn is_register_below(low: &Register, high: &Register) -> bool
     low.offset.leq(&high.offset) && low.value.leq(&high.value)
 }
 
-// The join of what is known of a register twice.
+// The join of what is known of a register twice. Where one is below the other, which is most often so, it is the other,
+// and nothing is joined.
 fn join_of(register: Register, other: &Register, bounds: &Bounds) -> Result<Register, OutOfMemory>
     requires valid { IsValidRegister bounds.now register }
     requires other { IsValidRegister bounds.now other.now }
     ensures { IfOk result (λ join. IsJoin register_below (IsValidRegister bounds.now) register other.now join) }
 {
+    if is_register_below(other, &register) {
+        return Ok(register);
+    }
+    if is_register_below(&register, other) {
+        return Ok(*other);
+    }
     let mut offset = register.offset;
     let mut value = register.value;
     let _offset = offset.join(&other.offset, &())?;

@@ -1,4 +1,4 @@
-ghost use Rattle.std.specs.Prelude.{◌≡◌, ◌↔◌, IsTrue};
+ghost use Rattle.std.specs.Prelude.{◌≡◌, ◌↔◌, IsTrue, IfOk};
 ghost use Rattle.vw_domain.specs.State.{Fits, IsState, IsValidState, state_below, state_rank, plain_register, entry_state};
 ghost use Rattle.vw_domain.specs.StateOrder.{state_reflexive, state_transitive, state_antisymmetric, state_falls, state_strict};
 
@@ -18,8 +18,7 @@ use vw_values::{Bounds, Value};
 /// more. Valid are the states whose values name no bounds but those given.
 #[derive(Drop)]
 pub struct State {
-    pub(crate) alloc: Global,
-    pub(crate) parts: Parts,
+    pub(crate) parts: Box<Parts>,
 }
 
 impl Model for State {
@@ -28,12 +27,21 @@ impl Model for State {
 
     ghost Value = { Parts };
 
-    ghost view = { λ state. state.parts };
+    ghost view = { λ state. state.parts.value };
 
-    ghost invariant = { λ state. IsState state.parts };
+    ghost invariant = { λ state. IsState state.parts.value };
 }
 
 impl State {
+    // The state with these parts.
+    pub(crate) fn with(alloc: Global, parts: Parts) -> Result<State, OutOfMemory>
+        requires { IsState parts }
+        ensures { IfOk result (λ state. state ≡ parts) }
+    {
+        let parts = Box::new(alloc, parts)?;
+        Ok(State { parts })
+    }
+
     /// What holds of every state: its parts are in their ranges, and its classes name places that are there.
     pub fn is_state(&self)
         ensures { IsState self.now }
@@ -45,7 +53,8 @@ impl State {
     pub fn fits(&self, bounds: &Bounds) -> bool
         ensures { IsTrue result ↔ Fits bounds.now self.now }
     {
-        is_row_among(&self.parts.registers, bounds) && are_slots_among(&self.parts.slots, bounds)
+        let parts: &Parts = &self.parts;
+        is_row_among(&parts.registers, bounds) && are_slots_among(&parts.slots, bounds)
     }
 }
 
@@ -73,21 +82,19 @@ impl Lattice for State {
             return Ok(false);
         }
         bounds.are_bounds();
+        let alloc = *Box::allocator(&self.parts);
         match join(&mut self.parts, &other.parts, bounds) {
             Ok(()) => Ok(true),
             Err(error) => {
-                self.parts = unknown_parts(self.alloc);
+                *self.parts = unknown_parts(alloc);
                 Err(error)
             }
         }
     }
 
     fn copy(&self) -> Result<Self, OutOfMemory> {
-        let parts = copy(&self.parts)?;
-        Ok(State {
-            alloc: self.alloc,
-            parts,
-        })
+        let alloc = *Box::allocator(&self.parts);
+        State::with(alloc, copy(&self.parts)?)
     }
 
     ghost reflexive = { state_reflexive };
@@ -113,9 +120,9 @@ fn plain_register(value: Value) -> Register
 
 /// The state at a function's entry: rsp is at offset 0, rdi holds the heap's base, rbx, rbp and r12 to r15 hold what
 /// the caller left in them, the other registers of the
-/// processor hold numbers, and nothing else is known. Takes no memory.
-pub fn entry_state(alloc: Global) -> State
-    ensures { result ≡ entry_state }
+/// processor hold numbers, and nothing else is known.
+pub fn entry_state(alloc: Global) -> Result<State, OutOfMemory>
+    ensures { IfOk result (λ state. state ≡ entry_state) }
 {
     let mut parts = unknown_parts(alloc);
     let number = plain_register(Value::Num);
@@ -141,5 +148,5 @@ pub fn entry_state(alloc: Global) -> State
         plain_register(Value::Entry(15)),
         plain_register(Value::Any),
     ];
-    State { alloc, parts }
+    State::with(alloc, parts)
 }

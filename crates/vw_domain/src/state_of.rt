@@ -247,6 +247,7 @@ impl State {
             return Err(PartsError::NotAState);
         }
         bare.classes = classes;
-        Ok(State { alloc, parts: bare })
+        let state = State::with(alloc, bare)?;
+        Ok(state)
     }
 }

@@ -4,7 +4,7 @@ ghost use Rattle.vw_locals.specs.Ranges.{IsRanges};
 ghost use Rattle.vw_domain.specs.State.{IsInFrame, wide_key, narrow_key};
 ghost use Rattle.vw_domain.specs.StateParts.{HasParts, HasSize, AreOffsets, AreValues, IsPlaceOf, ArePlacesOf, AreClassesOf, entry_of, offset_of};
 
-use crate::parts::Fact;
+use crate::parts::{Fact, Parts};
 use crate::registers::Register;
 use crate::state::State;
 use std::alloc::Global;
@@ -171,21 +171,22 @@ impl State {
     pub fn parts(&self) -> Result<StateParts, OutOfMemory>
         ensures { IfOk result (HasParts self.now) }
     {
-        let alloc = self.alloc;
-        let offsets = offsets_of(alloc, &self.parts.registers)?;
-        let values = values_of(alloc, &self.parts.registers)?;
-        let written = ranges_of(alloc, &self.parts.written)?;
-        let slots = slots_of(alloc, &self.parts.slots)?;
-        let names = self.parts.classes.groups()?;
+        let alloc = *Box::allocator(&self.parts);
+        let parts: &Parts = &self.parts;
+        let offsets = offsets_of(alloc, &parts.registers)?;
+        let values = values_of(alloc, &parts.registers)?;
+        let written = ranges_of(alloc, &parts.written)?;
+        let slots = slots_of(alloc, &parts.slots)?;
+        let names = parts.classes.groups()?;
         let classes = classes_of(alloc, names.as_slice())?;
         Ok(StateParts {
             offsets,
             values,
-            probed: self.parts.probed,
+            probed: parts.probed,
             written,
             slots,
             classes,
-            fact: self.parts.fact,
+            fact: parts.fact,
         })
     }
 }

@@ -119,10 +119,11 @@ impl State {
             → Fits b self.new) }
         ensures err { OnErr result (self.new ≡ unknown_state) }
     {
+        let alloc = *Box::allocator(&self.parts);
         match store(&mut self.parts, offset, count, content) {
             Ok(()) => Ok(()),
             Err(error) => {
-                self.parts = unknown_parts(self.alloc);
+                *self.parts = unknown_parts(alloc);
                 Err(error)
             }
         }

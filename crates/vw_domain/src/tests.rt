@@ -20,7 +20,7 @@ fn parts_of(alloc: Global, key: i64, value: Value, other: Spot) -> Result<Parts,
 #[test]
 fn joins_depths(rt: HostRuntime) -> Result<(), Fail> {
     let bounds = Bounds::new(rt.alloc(), &[])?;
-    let entry = entry_state(rt.alloc());
+    let entry = entry_state(rt.alloc())?;
     let mut state = entry.copy()?;
     state.raise(8192);
     let changed = state.join(&entry, &bounds)?;
@@ -31,7 +31,7 @@ fn joins_depths(rt: HostRuntime) -> Result<(), Fail> {
 
 #[test]
 fn adds_written_bytes(rt: HostRuntime) -> Result<(), Fail> {
-    let mut state = entry_state(rt.alloc());
+    let mut state = entry_state(rt.alloc())?;
     state.add_written(-16, -8)?;
     assert!(rt; state.is_written(-16, -8));
     assert!(rt; !state.is_written(-16, -7));
@@ -53,7 +53,7 @@ fn orders_slots_and_classes(rt: HostRuntime) -> Result<(), Fail> {
 // A copy of rdi in rax is HeapBase, and is rdi's for a comparison until the flags are cleared.
 #[test]
 fn copies_and_compares(rt: HostRuntime) -> Result<(), Fail> {
-    let mut state = entry_state(rt.alloc());
+    let mut state = entry_state(rt.alloc())?;
     state.copy_to(0, Spot::Reg(7), Offset::Unknown)?;
     state.compare(Spot::Reg(0), 32, 7)?;
     assert!(rt; state.value(Spot::Reg(0)) == Value::HeapBase);
@@ -66,7 +66,7 @@ fn copies_and_compares(rt: HostRuntime) -> Result<(), Fail> {
 // A register that is written leaves its class.
 #[test]
 fn writes_registers(rt: HostRuntime) -> Result<(), Fail> {
-    let mut state = entry_state(rt.alloc());
+    let mut state = entry_state(rt.alloc())?;
     state.copy_to(0, Spot::Reg(7), Offset::Unknown)?;
     state.write(
         0,
@@ -84,7 +84,7 @@ fn writes_registers(rt: HostRuntime) -> Result<(), Fail> {
 // A slot of a register's number holds its value and is in its class. One byte that is written there takes it out.
 #[test]
 fn stores_bytes(rt: HostRuntime) -> Result<(), Fail> {
-    let mut state = entry_state(rt.alloc());
+    let mut state = entry_state(rt.alloc())?;
     state.store(-16, 8, Content::Copy(7))?;
     assert!(rt; state.value(Spot::Slot(-16)) == Value::HeapBase);
     assert!(rt; state.same(Spot::Slot(-16), Spot::Reg(7)));
@@ -96,7 +96,7 @@ fn stores_bytes(rt: HostRuntime) -> Result<(), Fail> {
 // A call writes its return address, loses slots below rsp, and keeps rbx.
 #[test]
 fn calls_functions(rt: HostRuntime) -> Result<(), Fail> {
-    let mut state = entry_state(rt.alloc());
+    let mut state = entry_state(rt.alloc())?;
     state.store(-16, 8, Content::Copy(7))?;
     state.call()?;
     state.finish();
@@ -108,7 +108,7 @@ fn calls_functions(rt: HostRuntime) -> Result<(), Fail> {
 
 // The parts of the state at the entry, of which a test changes one.
 fn entry_parts(alloc: Global) -> Result<StateParts, OutOfMemory> {
-    entry_state(alloc).parts()
+    entry_state(alloc)?.parts()
 }
 
 fn is_made(alloc: Global, parts: &StateParts) -> Result<bool, OutOfMemory> {

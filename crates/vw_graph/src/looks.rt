@@ -2,9 +2,6 @@
 
 ghost use Rattle.std.specs.Prelude.{◌≡◌, ◌+◌, ◌^◌, ◌<◌, ◌≤◌, length, IfOk};
 ghost use Rattle.vw_insn.specs.Listed.{IsListed};
-ghost use Rattle.vw_domain.specs.Abstract.{abstract_of};
-ghost use Rattle.vw_domain.specs.Addresses.{value_of};
-ghost use Rattle.vw_domain.specs.Operands.{index_of};
 ghost use Rattle.vw_domain.specs.State.{Fits};
 ghost use Rattle.vw_state.specs.Context.{Context, IsSite, code_of};
 ghost use Rattle.vw_graph.specs.Walks.{FindsThrough, FindsBehind, FindsAt};
@@ -15,22 +12,10 @@ use vw_bits::OutOfMemory;
 use vw_domain::State;
 use vw_insn::Insn;
 use vw_state::{
-    JumpTable, Site, flow_of, instruction_at, jump_table, leaves_directly, state_behind,
+    JumpTable, Site, flow_of, instruction_at, jump_table, known_of, leaves_directly, state_behind,
     stays_inside,
 };
-use vw_stmt::{Flow, Var};
-use vw_values::Value;
-
-// The value of a register, or of tmp.
-fn value_in(state: &State, src: Var) -> Value
-    ensures { result ≡ value_of (abstract_of state.now) (index_of src) }
-{
-    let number = match src {
-        Var::Reg(reg) => reg as u8,
-        Var::Tmp => 16,
-    };
-    state.register(number).value
-}
+use vw_stmt::Flow;
 
 // What is found at a jump through a register, by the table of jumps that its value tells.
 fn look_through(site: &Site, table: Option<JumpTable>) -> Look
@@ -66,7 +51,7 @@ fn look_behind(
     match flow {
         Flow::JumpReg { src } => {
             let behind = state_behind(alloc, site, next, insn, state)?;
-            Ok(look_through(site, jump_table(value_in(&behind, src))))
+            Ok(look_through(site, jump_table(known_of(&behind, src).value)))
         }
         _ => {
             if leaves_directly(site.size, next, flow) {

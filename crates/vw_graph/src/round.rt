@@ -160,7 +160,8 @@ fn first_round<L: Ledger>(
     sites_are_in_range(loaded);
     state_ranks_are_small();
     let graph = Graph::of_function(loaded, declared, site, code, declared.size + 1, &[]);
-    solve(alloc, &graph, 0, entry_state(alloc), steps)
+    let start = entry_state(alloc)?;
+    solve(alloc, &graph, 0, start, steps)
 }
 
 // The table of a round with these jumps through registers, from the one of the round before.

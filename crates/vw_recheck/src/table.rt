@@ -79,7 +79,8 @@ pub(crate) fn lowest_in(
     if !points_ascend(states) {
         return Ok(Some((0, 0)));
     }
-    if !lands(site, states, 0, &entry_state(alloc)) {
+    let start = entry_state(alloc)?;
+    if !lands(site, states, 0, &start) {
         return Ok(Some((0, 0)));
     }
     for point in states {

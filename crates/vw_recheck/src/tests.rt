@@ -316,7 +316,7 @@ fn state(alloc: Global, known: Known) -> Result<State, PartsError> {
     match known {
         Known::Rax(value) => state_with(alloc, 0, value),
         Known::Rdi(value) => state_with(alloc, 7, value),
-        _ => Ok(entry_state(alloc)),
+        _ => Ok(entry_state(alloc)?),
     }
 }
 

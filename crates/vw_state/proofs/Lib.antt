@@ -23,3 +23,4 @@ mod Outcomes
 mod Contents
 mod Loaded
 mod CodeBytes
+mod CountingRows

@@ -12,3 +12,4 @@ pub mod Laws
 pub mod EdgeLaws
 pub mod RoundLaws
 pub mod Addresses
+pub mod Opcodes

@@ -4,6 +4,7 @@ ghost use Rattle.vw_decode.specs.Lexing.{read};
 ghost use Rattle.vw_rows.specs.Numbers.{IsBytes};
 ghost use Rattle.vw_state.specs.Bounds.{bounds_in, bounds_near, bounds_of, bounds_read, counted_immediate, immediate, is_bounding};
 
+use crate::opcodes::may_count;
 use std::alloc::Global;
 use vw_bits::OutOfMemory;
 use vw_decode::{decode, read_is_spelling};
@@ -57,6 +58,9 @@ fn immediate_at(bytes: &[u8]) -> Option<u64>
     ensures { bounds_near result ≡ bounds_read (read bytes.now) }
 {
     read_is_spelling();
+    if !may_count(bytes) {
+        return None;
+    }
     match decode(bytes) {
         Some((insn, _)) => counted_immediate(&insn),
         None => None,

@@ -186,8 +186,18 @@ pub fn flow_of(alloc: Global, insn: &Insn) -> Flow
     requires { IsListed insn.now }
     ensures { result ≡ flow_of insn.now }
 {
-    let stmts = lift(alloc, insn, 0, 0);
-    last_flow(stmts.as_slice())
+    match *insn {
+        Insn::JumpInd { .. } | Insn::CallInd { .. } => {
+            let stmts = lift(alloc, insn, 0, 0);
+            last_flow(stmts.as_slice())
+        }
+        Insn::Jcc { cond, rel } => Flow::Branch { cond, rel },
+        Insn::Jump { rel } => Flow::Jump { rel },
+        Insn::Call { rel } => Flow::Call { rel },
+        Insn::Ret => Flow::Ret,
+        Insn::Ud2 => Flow::Stop,
+        _ => Flow::Next,
+    }
 }
 
 // The last of some statements, where it is a flow.

@@ -14,6 +14,7 @@ mod loads;
 mod memory;
 mod module_tables;
 mod moves;
+mod opcodes;
 mod operand;
 mod probe_calls;
 mod puts;
@@ -38,6 +39,7 @@ pub use laws::{
 pub use memory::Address;
 pub use module_tables::{lengths_of, tables_of};
 pub use operand::address;
+pub use registers::known_of;
 pub use round_laws::{
     graph_checks_rise, jumps_stay, least_tables_are_one, more_jumps_more_edges, rounds_are_lower,
     stable_rounds_solve,

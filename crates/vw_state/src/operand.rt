@@ -4,17 +4,18 @@ ghost use Rattle.vw_insn.specs.Words.{word_of};
 ghost use Rattle.vw_values.specs.Bounds.{first_from};
 ghost use Rattle.vw_values.specs.Sums.{extent_of};
 ghost use Rattle.vw_domain.specs.Abstract.{abstract_of};
-ghost use Rattle.vw_domain.specs.Addresses.{Image, value_of, signed_times, in_entry, known_or, by_value, by_base, spread, in_heap, in_globals, in_range, in_table, by_symbol, by_image, by_pair, by_index, by_index_alone, address_of};
+ghost use Rattle.vw_domain.specs.Addresses.{Image, value_of, signed_times, known_or, by_value, by_base, spread, in_heap, in_globals, in_range, by_symbol, by_image, by_pair, by_index, by_index_alone, address_of};
 ghost use Rattle.vw_domain.specs.Registers.{IsWithin, OffsetFits};
-ghost use Rattle.vw_state.specs.Addresses.{address_view};
+ghost use Rattle.vw_state.specs.Addresses.{address_view, told_by};
 ghost use Rattle.vw_state.specs.Context.{Context, IsSite, site_at, equation_site};
 
 use crate::registers::{register_number, word_of};
 use crate::{Address, Site};
+use vw_calls::{EntryRef, entry_of};
 use vw_domain::State;
 use vw_insn::{Base, Mem};
 use vw_stack::Offset;
-use vw_values::{Bounds, Value, Via, add};
+use vw_values::{Bounds, Value, Via};
 
 /// The address of a memory operand in a function with a state. `next` is the point behind the instruction, from which
 /// an operand on rip counts. Takes no memory.
@@ -34,18 +35,19 @@ fn image_at(address: u64, disp: i32) -> u64
     address.wrapping_add(word_of(disp))
 }
 
-fn in_entry(table: u32, tag: Option<u64>, disp: i32, via: Via) -> Option<Address>
-    ensures { option_map address_view result ≡ in_entry table tag disp via }
+// A place in an entry, of which `via` is the register that tells the entry.
+fn in_entry(place: Option<EntryRef>, via: Via) -> Option<Address>
+    ensures { option_map address_view result ≡ option_map (told_by via) place }
 {
-    if disp < 0 {
-        return None;
+    match place {
+        None => None,
+        Some(EntryRef { table, tag, disp }) => Some(Address::Entry {
+            table,
+            tag,
+            disp,
+            via,
+        }),
     }
-    Some(Address::Entry {
-        table,
-        tag,
-        disp: disp as u32,
-        via,
-    })
 }
 
 fn known_or(first: Option<Address>, second: Option<Address>) -> Address
@@ -62,7 +64,8 @@ fn known_or(first: Option<Address>, second: Option<Address>) -> Address
 }
 
 // Register `r` holds this value, and no distance of it from rsp is known.
-fn by_value(r: u8, value: Value, disp: i32) -> Option<Address>
+fn by_value(site: &Site, r: u8, value: Value, disp: i32) -> Option<Address>
+    requires few { length site.now.tables.now ≤ 64 }
     ensures { option_map address_view result ≡ by_value r value disp }
 {
     let near = disp as i128;
@@ -80,32 +83,32 @@ fn by_value(r: u8, value: Value, disp: i32) -> Option<Address>
             high: near,
         }),
         Value::Image(a) => Some(Address::Image(image_at(a, disp))),
-        Value::EntryPtr(table) => in_entry(table, None, disp, Via::At(r)),
-        Value::EntryTyped { table, tag } => in_entry(table, Some(tag), disp, Via::At(r)),
-        _ => None,
+        _ => in_entry(entry_of(value, None, disp, site.tables), Via::At(r)),
     }
 }
 
 // `disp` bytes from the address that register `r` holds, of which this is known.
-fn by_base(r: u8, offset: Offset, value: Value, disp: i32) -> Address
-    requires { OffsetFits offset value }
+fn by_base(site: &Site, r: u8, offset: Offset, value: Value, disp: i32) -> Address
+    requires few { length site.now.tables.now ≤ 64 }
+    requires fits { OffsetFits offset value }
     ensures { address_view result ≡ by_base r offset value disp }
 {
     match offset {
         Offset::Known(c) => Address::Frame(c + disp as i64),
-        Offset::Unknown => known_or(by_value(r, value, disp), None),
+        Offset::Unknown => known_or(by_value(site, r, value, disp), None),
     }
 }
 
 // The same of a state.
-fn at_register(state: &State, r: u8, disp: i32) -> Address
-    requires { r < 17 }
+fn at_register(site: &Site, state: &State, r: u8, disp: i32) -> Address
+    requires few { length site.now.tables.now ≤ 64 }
+    requires register { r < 17 }
     ensures { address_view result
         ≡ by_base r ((abstract_of state.now).offsets r) (value_of (abstract_of state.now) r) disp }
 {
     state.is_state();
     let register = state.register(r);
-    by_base(r, register.offset, register.value, disp)
+    by_base(site, r, register.offset, register.value, disp)
 }
 
 // `scale` times a number.
@@ -198,17 +201,6 @@ fn in_range(at: u64, scale: u8, k: Option<u64>) -> Option<Address>
     }
 }
 
-// The sum of a table's address and the distance of an entry.
-fn in_table(sum: Value, disp: i32, via: Via) -> Option<Address>
-    ensures { option_map address_view result ≡ in_table sum disp via }
-{
-    match sum {
-        Value::EntryPtr(table) => in_entry(table, None, disp, via),
-        Value::EntryTyped { table, tag } => in_entry(table, Some(tag), disp, via),
-        _ => None,
-    }
-}
-
 // The least bound above a number.
 fn bound_above(number: u64, bounds: &Bounds) -> Option<u64>
     ensures { result ≡ first_from (number + 1) bounds.now }
@@ -227,9 +219,8 @@ fn by_symbol(site: &Site, a: u64, i: u8, index: Value, scale: u8, disp: i32) -> 
         ≡ by_symbol (equation_site site.now next) a i index scale disp }
 {
     match index {
-        Value::Index16 { .. } if scale == 1 => in_table(
-            add(Value::Image(a), index, site.tables),
-            disp,
+        Value::Index16 { .. } if scale == 1 => in_entry(
+            entry_of(Value::Image(a), Some(index), disp, site.tables),
             Via::Idx(i),
         ),
         _ => None,
@@ -301,12 +292,13 @@ fn by_index(site: &Site, state: &State, r: u8, i: u8, scale: u8, disp: i32) -> A
 }
 
 // An index alone is a base at scale 1.
-fn by_index_alone(state: &State, i: u8, scale: u8, disp: i32) -> Address
-    requires { i < 17 }
+fn by_index_alone(site: &Site, state: &State, i: u8, scale: u8, disp: i32) -> Address
+    requires few { length site.now.tables.now ≤ 64 }
+    requires index { i < 17 }
     ensures { address_view result ≡ by_index_alone (abstract_of state.now) i scale disp }
 {
     if scale == 1 {
-        at_register(state, i, disp)
+        at_register(site, state, i, disp)
     } else {
         Address::Unknown
     }
@@ -328,7 +320,9 @@ fn by_parts(site: &Site, next: u32, mem: &Mem, state: &State) -> Address
     match mem.base {
         Base::Rip => by_next(site, next, mem.disp),
         Base::None => match mem.index {
-            Some((index, scale)) => by_index_alone(state, register_number(index), scale, mem.disp),
+            Some((index, scale)) => {
+                by_index_alone(site, state, register_number(index), scale, mem.disp)
+            }
             None => Address::Unknown,
         },
         Base::Reg(base) => match mem.index {
@@ -342,7 +336,7 @@ fn by_parts(site: &Site, next: u32, mem: &Mem, state: &State) -> Address
                     mem.disp,
                 )
             }
-            None => at_register(state, register_number(base), mem.disp),
+            None => at_register(site, state, register_number(base), mem.disp),
         },
     }
 }

@@ -20,24 +20,7 @@ pub fn register_number(reg: Reg) -> u8
     ensures number { result ≡ number reg }
     ensures below { result < 16 }
 {
-    match reg {
-        Reg::Rax => 0,
-        Reg::Rcx => 1,
-        Reg::Rdx => 2,
-        Reg::Rbx => 3,
-        Reg::Rsp => 4,
-        Reg::Rbp => 5,
-        Reg::Rsi => 6,
-        Reg::Rdi => 7,
-        Reg::R8 => 8,
-        Reg::R9 => 9,
-        Reg::R10 => 10,
-        Reg::R11 => 11,
-        Reg::R12 => 12,
-        Reg::R13 => 13,
-        Reg::R14 => 14,
-        Reg::R15 => 15,
-    }
+    reg as u8
 }
 
 // A register's number; tmp counts as number 16.
@@ -76,7 +59,8 @@ pub fn plain(value: Value) -> Register
     }
 }
 
-// What is known of a register, or of tmp.
+/// What is known of a register, or of tmp: its value, and its distance from the value of rsp at the function's entry.
+/// Takes no memory.
 pub fn known_of(state: &State, var: Var) -> Register
     ensures value { result.value ≡ value_of (abstract_of state.now) (index_of var) }
     ensures offset { result.offset ≡ (abstract_of state.now).offsets (index_of var) }

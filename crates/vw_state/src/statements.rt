@@ -5,7 +5,7 @@ ghost use Rattle.vw_domain.specs.Abstract.{abstract_of};
 ghost use Rattle.vw_domain.specs.Operands.{index_of};
 ghost use Rattle.vw_domain.specs.Addresses.{value_of};
 ghost use Rattle.vw_domain.specs.State.{Fits};
-ghost use Rattle.vw_domain.specs.Statements.{apply, applies};
+ghost use Rattle.vw_domain.specs.Statements.{apply, applies, finish};
 ghost use Rattle.vw_state.specs.Context.{Context, IsSite, site_at};
 ghost use Rattle.vw_state.specs.Context.{equation_site};
 
@@ -164,18 +164,19 @@ pub fn after_stmts(
     Ok(after)
 }
 
-/// Changes a state as the statements of an instruction with the point `next` behind it do. Where memory is refused, the
-/// state stays as it was.
+/// Changes a state as the statements of an instruction with the point `next` behind it do, and its end, after which tmp
+/// may hold any number. Where memory is refused, the state stays as it was.
 pub fn apply(site: &Site, next: u32, stmts: &[Stmt], state: &mut State) -> Result<(), OutOfMemory>
     requires few { length site.now.tables.now ≤ 64 }
     requires lifted { AllByRecursion IsLifted stmts.now }
     ensures ok { OnOk result ((f : Context) → IsSite f site.now
-        → abstract_of state.new ≡ applies (site_at f next) stmts.now (abstract_of state.old)) }
+        → abstract_of state.new ≡ finish (applies (site_at f next) stmts.now (abstract_of state.old))) }
     ensures fits { Fits site.now.bounds.now state.old → Fits site.now.bounds.now state.new }
     ensures err { OnErr result (state.new ≡ state.old) }
 {
     let mut after = state.copy()?;
     change_all(site, next, stmts, &mut after)?;
+    after.finish();
     *state = after;
     Ok(())
 }

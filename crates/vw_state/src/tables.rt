@@ -32,7 +32,7 @@ pub struct Place {
     pub entry: u64,
     /// The offset from the function's first byte.
     pub at: u32,
-    /// The number of the check, 1 to 8.
+    /// The number of the check, 1 to 8, or 0 where given tables are no solution.
     pub check: u8,
 }
 

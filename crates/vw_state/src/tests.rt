@@ -158,7 +158,7 @@ fn edges_of_instructions(rt: HostRuntime) -> Result<(), Fail> {
             size: *size,
             bounds: &bounds,
         };
-        let state = entry_state(rt.alloc());
+        let state = entry_state(rt.alloc())?;
         let mut edges: Edges<State> = Edges::new(rt.alloc());
         post(rt.alloc(), &site, *at, &state, &mut edges)?;
         assert!(rt;
@@ -186,7 +186,7 @@ fn edges_of_jumps_through_tables(rt: HostRuntime) -> Result<(), Fail> {
         if k == 0 || 65_536 < k {
             return Err("a count of entries".into());
         }
-        let mut state = entry_state(rt.alloc());
+        let mut state = entry_state(rt.alloc())?;
         state.write(
             0,
             Register {

@@ -2,7 +2,6 @@ use Rattle.std.proofs.Common.{◌≡◌, ◌∙◌, List, subst}
 use Rattle.std.specs.Prelude.{IfOk}
 use Rattle.vw_stmt.specs.declared.statement.Stmt.{Stmt}
 use Rattle.vw_lift.specs.Lifted.{lifted}
-use Rattle.vw_domain.specs.declared.parts.Parts.{Parts}
 use Rattle.vw_domain.specs.Abstract.{abstract_of}
 use Rattle.vw_checks.specs.Checks.{IsLowestOf, StmtsFail}
 use Rattle.vw_checks.proofs.checks.failing_insn.Goals as goal
@@ -11,6 +10,4 @@ pub returns : goal.returns
 returns c = λ f of is.
     let i = c.args.insn.now in
     let same : c.as_slice.result.now ≡ lifted i = c.as_slice.ensures.items ∙ c.lift-stmts.ensures.list in
-    let at_list =
-    subst (λ (xs : List Stmt). IfOk c.failing_stmts.result (IsLowestOf (StmtsFail f c.args.next (abstract_of c.in_ok-copy.copy) xs))) same (c.failing_stmts.ensures f of is) in
-    subst (λ (s : Parts). IfOk c.failing_stmts.result (IsLowestOf (StmtsFail f c.args.next (abstract_of s) (lifted i)))) c.in_ok-copy.ensures at_list
+    subst (λ (xs : List Stmt). IfOk c.failing_stmts.result (IsLowestOf (StmtsFail f c.args.next (abstract_of c.args.state.now) xs))) same (c.failing_stmts.ensures f of is)

@@ -13,7 +13,7 @@ use Rattle.vw_graph.proofs.looks.look_behind.Goals as goal
 pub returns-in_ok-behind-in-JumpReg : goal.returns-in_ok-behind-in-JumpReg
 returns-in_ok-behind-in-JumpReg c = λ f is.
     let form = c.in_ok-behind-in-JumpReg.ensures.form f is in
-    let told = c.jump_table.ensures ∙ ap (λ (v : Value). jump_table v) (c.value_in.ensures ∙ ap (λ (st : Abstract). value_of st (index_of c.in-JumpReg.src)) form) in
+    let told = c.jump_table.ensures ∙ ap (λ (v : Value). jump_table v) (c.known_of.ensures.value ∙ ap (λ (st : Abstract). value_of st (index_of c.in-JumpReg.src)) form) in
     through_behind f c.args.next c.args.insn.now c.args.state.now c.in-JumpReg.src c.jump_table.result c.look_through.result (sym c.flow_of-flow.ensures ∙ c.in-JumpReg.is) told (c.look_through.ensures f is)
 
 pub returns-then-leaves_directly : goal.returns-then-leaves_directly

@@ -20,7 +20,7 @@ pub returns-in_ok-store-in-Frame-clause-fits : goal.returns-in_ok-store-in-Frame
 returns-in_ok-store-in-Frame-clause-fits c = c.in_ok-store-in-Frame.ensures.fits _
 
 pub returns-in-Unknown-clause-form : goal.returns-in-Unknown-clause-form
-returns-in-Unknown-clause-form c = rw c.in-Unknown.is (λ v. c.lose_slots.ensures.form)
+returns-in-Unknown-clause-form c = rw c.in-Unknown.is (λ v. search rules)
 
 pub returns-in-Unknown-clause-fits : goal.returns-in-Unknown-clause-fits
 returns-in-Unknown-clause-fits c = λ fits among. c.lose_slots.ensures.fits _ fits

@@ -3,7 +3,7 @@ use Rattle.vw_domain.specs.Abstract.{abstract_of}
 use Rattle.vw_state.specs.Context.{Context, IsSite}
 use Rattle.vw_checks.specs.Checks.{IsLowestOf, StmtsFail, lower}
 use Rattle.vw_checks.specs.Functions.{IsFunctionOf}
-use Rattle.vw_checks.proofs.checks.failing_stmts.Given as goal
+use Rattle.vw_checks.proofs.checks.failing_each.Given as goal
 
 abbrev pub invariant-loop-stmt : goal.invariant-loop-stmt
 invariant-loop-stmt l =
