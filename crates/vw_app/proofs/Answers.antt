@@ -1,6 +1,8 @@
 -- From the parts of the program to the answer.
-use Rattle.std.proofs.Common.{◌≡◌, ◌≢◌, ℕ, ◌^◌, ◌<◌, Bool, false, nat_le, Result, Ok, Err, IfOk, List, [], ◌∷◌, length, get_or, Option, Some, None, IfSome, replicate, refl, sym, ◌∙◌, ap, subst, arith, lit<}
+use Rattle.std.proofs.Common.{◌≡◌, ◌≢◌, ℕ, ◌^◌, ◌<◌, Bool, false, nat_le, Result, Ok, Err, IfOk, List, [], ◌∷◌, length, codes, get_or, Option, Some, None, IfSome, replicate, refl, sym, ◌∙◌, ap, subst, arith, lit<}
+use Rattle.std.specs.Fmt.{decimal}
 use Rattle.std.proofs.lemmas.Bool.Decides.{nat_tests}
+use Rattle.std.proofs.lemmas.Fmt.{decimal_injective}
 use Rattle.std.proofs.Math.ListN.{length-replicate}
 use Rattle.vw_bits.specs.HeaderRules.{header_fault, header_rules}
 use Rattle.vw_bits.specs.declared.memory.OutOfMemory.{OutOfMemory}
@@ -17,12 +19,12 @@ use Rattle.vw_app.specs.Lines.{malformed_line, unsafe_line, info_text}
 use Rattle.vw_outside.specs.Shelf.{Rose}
 use Rattle.vw_checks.specs.Modules.{EachHasSafeTable}
 use Rattle.vw_machine.specs.Module.{declared_module}
-use Rattle.vw_make.specs.Generator.{generated_parts}
-use Rattle.vw_make.specs.Module.{module_bytes}
 use Rattle.vw_sandbox.specs.Sandboxed.{IsSandboxedFile}
 use Rattle.vw_report.specs.Reports.{TablesHaveOneText}
-use Rattle.vw_app.specs.Answer.{Reply, WithoutFile, usage, generated, without_file, read_fault, AsksModule, IsForm, of_file, of_numbers, answered, Answered, malformed, done, Judged, IsSafeLine, IsLeastReport, safe, unsafe, Asks, AreTold, ReadFailed, Done, Judges, word, IsAccepted, IsAcceptedText}
+use Rattle.vw_app.specs.Answer.{Reply, WithoutFile, usage, generated, tested, without_file, read_fault, AsksNumbers, AsksModule, AsksTest, IsForm, of_file, of_numbers, of_test, answered, checked, AsksCheck, of_files, CheckAnswered, file_unread, file_read, FileAnswered, no_module, of_module, ReportAnswered, report_unread, report_read, Answered, malformed, done, Judged, IsSafeLine, IsLeastReport, safe, unsafe, Asks, AreTold, ReadFailed, Done, Judges, word, IsAccepted, IsAcceptedText}
+use Rattle.vw_app.specs.Check.{Checked, IsSandboxedByReport}
 use Rattle.vw_app.specs.Listing.{IsListing}
+use Rattle.vw_app.specs.Selftest.{made_file, SelfTested}
 use Rattle.vw_app.proofs.Least.{OneLeast, OneLeastIn, SitesLaw, one_least_in}
 use Rattle.vw_app.proofs.Listings.{OneSpelling, listing_once}
 use Rattle.vw_app.proofs.Places.{one_place}
@@ -58,15 +60,15 @@ longer : (n : ℕ) → 2 ^ 26 < n → 2 ^ 26 < length (zeros n)
 longer n long = omega (arith, length-zeros n)
 
 -- some file that is as long as was read, where its bytes are not told
-pub too_long : (told : Option (List ℕ)) → IfSome told (λ bytes. 2 ^ 26 < length bytes) → (file : List ℕ) × AreTold told file × (module_fault file ≡ Some (1, 67108864))
-too_long None long = (zeros 67108865, tt, long_breaks (zeros 67108865) (longer 67108865 (lit< tt)))
-too_long (Some bytes) long = (bytes, refl, long_breaks bytes long)
+pub too_long_file : (told : Option (List ℕ)) → IfSome told (λ bytes. 2 ^ 26 < length bytes) → (file : List ℕ) × AreTold told file × (module_fault file ≡ Some (1, 67108864))
+too_long_file None long = (zeros 67108865, tt, long_breaks (zeros 67108865) (longer 67108865 (lit< tt)))
+too_long_file (Some bytes) long = (bytes, refl, long_breaks bytes long)
 
 -- the answer to a file that is too long
 pub reply_too_long : {words : List (List ℕ)} {fault : List ℕ → Type 0} (made text : List ℕ) (told : List ℕ → Option (List ℕ)) (command : Command) (name : List ℕ) → Asks words command name → IfSome (told name) (λ bytes. 2 ^ 26 < length bytes)
     → made ≡ malformed_line 1 67108864 → text ≡ made → Reply words told fault 2 text
 reply_too_long {words} {fault} made text told command name asks long is same =
-    let t = too_long (told name) long in
+    let t = too_long_file (told name) long in
     subst (λ (l : List ℕ). Reply words told fault 2 l) (sym (same ∙ is)) (answered command name t.0 2 (malformed_line 1 67108864) asks t.1 (malformed 1 67108864 t.2))
 
 -- the answer to a file that was read, lent piece by piece
@@ -100,21 +102,72 @@ same_request {words} {command} {other} {name} {other_name} one two =
     (same_word command other firsts, ap (λ (l : List (List ℕ)). get_or l 1 []) e)
 
 -- words that ask for a file ask for no module
-two_forms : (words : List (List ℕ)) (asked : Command) (name : List ℕ) (functions number : ℕ) → Asks words asked name → AsksModule words functions number → ⊥
-two_forms words asked name functions number asks also = let l : 2 ≡ 3 = ap length (sym asks ∙ also.0) in omega (arith, l)
+two_forms : (words : List (List ℕ)) (first : List ℕ) (asked : Command) (name : List ℕ) (functions number : ℕ) → Asks words asked name → AsksNumbers first words functions number → ⊥
+two_forms words first asked name functions number asks also = let l : 2 ≡ 3 = ap length (sym asks ∙ also.0) in omega (arith, l)
 
 -- and are answered by it
 no_file : (words : List (List ℕ)) (asked : Command) (name : List ℕ) {status : ℕ} {text : List ℕ} → Asks words asked name → WithoutFile words status text → ⊥
 no_file words asked name asks (usage none) = none (of_file asked name asks)
-no_file words asked name asks (generated functions number also) = two_forms words asked name functions number asks also
+no_file words asked name asks (generated functions number also) = two_forms words (codes "make") asked name functions number asks also
+no_file words asked name asks (tested functions number status text also is) = two_forms words (codes "selftest") asked name functions number asks also
+
+-- words that ask for a report to be checked ask for no command on one file
+two_lengths : (words : List (List ℕ)) (asked : Command) (name file report : List ℕ) → Asks words asked name → AsksCheck words file report → ⊥
+two_lengths words asked name file report asks also = let l : 2 ≡ 3 = ap length (sym asks ∙ also) in omega (arith, l)
+
+-- nor for a module
+two_words : (words : List (List ℕ)) (file report : List ℕ) (functions number : ℕ) → AsksCheck words file report → AsksModule words functions number → ⊥
+two_words words file report functions number asks also =
+    let l : 5 ≡ 4 = ap (λ (l : List (List ℕ)). length (get_or l 0 [])) (sym asks ∙ also.0) in omega (arith, l)
+
+-- nor for a test
+check_or_test : (words : List (List ℕ)) (file report : List ℕ) (functions number : ℕ) → AsksCheck words file report → AsksTest words functions number → ⊥
+check_or_test words file report functions number asks also =
+    let l : 5 ≡ 8 = ap (λ (l : List (List ℕ)). length (get_or l 0 [])) (sym asks ∙ also.0) in omega (arith, l)
+
+-- the words ask for a module or for a test
+write_or_test : (words : List (List ℕ)) (functions number others other : ℕ) → AsksModule words functions number → AsksTest words others other → ⊥
+write_or_test words functions number others other asks also =
+    let l : 4 ≡ 8 = ap (λ (l : List (List ℕ)). length (get_or l 0 [])) (sym asks.0 ∙ also.0) in omega (arith, l)
+
+-- and for one
+same_numbers : {words : List (List ℕ)} (first : List ℕ) (functions number others other : ℕ) → AsksNumbers first words functions number → AsksNumbers first words others other → (functions ≡ others) × (number ≡ other)
+same_numbers {words} first functions number others other asks also =
+    let e : first ∷ decimal functions ∷ decimal number ∷ [] ≡ first ∷ decimal others ∷ decimal other ∷ [] = sym asks.0 ∙ also.0 in (
+      decimal_injective functions others (omega (arith, asks.2)) (omega (arith, also.2)) (ap (λ (l : List (List ℕ)). get_or l 1 []) e),
+      decimal_injective number other asks.3 also.3 (ap (λ (l : List (List ℕ)). get_or l 2 []) e),
+    )
 
 -- a module that was made, lent piece by piece
-pub module_made : {words : List (List ℕ)} (functions number : ℕ) (file lent : List ℕ) → AsksModule words functions number → file ≡ module_bytes (generated_parts functions number) → lent ≡ file → WithoutFile words 0 lent
+pub module_made : {words : List (List ℕ)} (functions number : ℕ) (file lent : List ℕ) → AsksModule words functions number → file ≡ made_file functions number → lent ≡ file → WithoutFile words 0 lent
 module_made {words} functions number file lent asks is same = subst (λ (t : List ℕ). WithoutFile words 0 t) (sym (same ∙ is)) (generated functions number asks)
 
-pub no_form : {words : List (List ℕ)} → ((asked : Command) (name : List ℕ) → Asks words asked name → ⊥) → ((functions number : ℕ) → AsksModule words functions number → ⊥) → IsForm words → ⊥
-no_form no_file no_module (of_file asked name asks) = no_file asked name asks
-no_form no_file no_module (of_numbers functions number asks) = no_module functions number asks
+pub no_form : {words : List (List ℕ)} → ((asked : Command) (name : List ℕ) → Asks words asked name → ⊥) → ((name report : List ℕ) → AsksCheck words name report → ⊥) → ((functions number : ℕ) → AsksTest words functions number → ⊥) → ((functions number : ℕ) → AsksModule words functions number → ⊥) → IsForm words → ⊥
+no_form none_read none_checked none_tested none_made (of_file asked name asks) = none_read asked name asks
+no_form none_read none_checked none_tested none_made (of_files name report asks) = none_checked name report asks
+no_form none_read none_checked none_tested none_made (of_numbers functions number asks) = none_made functions number asks
+no_form none_read none_checked none_tested none_made (of_test functions number asks) = none_tested functions number asks
+
+-- the answer of a test, lent piece by piece
+pub module_tested : {words : List (List ℕ)} (functions number status : ℕ) (made lent : List ℕ) → AsksTest words functions number → lent ≡ made → SelfTested functions number status made → WithoutFile words status lent
+module_tested {words} functions number status made lent asks same is = subst (λ (t : List ℕ). WithoutFile words status t) (sym same) (tested functions number status made asks is)
+
+-- words that ask for another form ask for no test
+pub no_test_of_file : {A : Type 0} {words : List (List ℕ)} (asked : Command) (name : List ℕ) (functions number : ℕ) → Asks words asked name → AsksTest words functions number → A
+no_test_of_file {A} {words} asked name functions number asks also = absurd (two_forms words (codes "selftest") asked name functions number asks also)
+
+pub no_test_of_files : {A : Type 0} {words : List (List ℕ)} (name report : List ℕ) (functions number : ℕ) → AsksCheck words name report → AsksTest words functions number → A
+no_test_of_files {A} {words} name report functions number asks also = absurd (check_or_test words name report functions number asks also)
+
+-- what status 0 of a test says, carried to the words that ask for it
+pub safe_test : {words : List (List ℕ)} (result status : Status) (functions number : ℕ) {Rest : Type 0} → AsksTest words functions number
+    → (result.0 ≢ 5 → (result ≡ status) × Rest) → (status.0 ≡ 0 → IsSandboxedFile (made_file functions number))
+    → (others other : ℕ) → AsksTest words others other → result.0 ≡ 0 → IsSandboxedFile (made_file others other)
+safe_test {words} result status functions number asks written found others other also zero =
+    let whole = written (λ five. absurd (omega arith)) in
+    let same = same_numbers (codes "selftest") functions number others other asks also in
+    let sandboxed = found (sym (ap (λ (s : Status). s.0) whole.0) ∙ zero) in
+    subst (λ (n : ℕ). IsSandboxedFile (made_file others n)) same.1 (subst (λ (f : ℕ). IsSandboxedFile (made_file f number)) same.0 sandboxed)
 
 -- an answer of status 0, the verdict's, is that of a file that was read
 pub safe_reply : {words : List (List ℕ)} (told : List ℕ → Option (List ℕ)) (result status : Status) (asked : Command) (lent file : List ℕ) {Rest : Type 0} → Asks words asked lent → AreTold (told lent) file
@@ -200,6 +253,7 @@ replied_done words told fault asked name file status text asks is_told steady is
     let file_is : read ≡ file = subst (λ (t : Option (List ℕ)). AreTold t read) lent_told are_told in
     let here : Answered asked read status text = subst (λ (c : Command). Answered c read status text) same.0 answer in
     done_of is (subst (λ (b : List ℕ). Answered asked b status text) file_is here)
+replied_done words told fault asked name file status text asks is_told steady is (checked lent report status' text' asks' answer) = absurd (two_lengths words asked name lent report asks asks')
 
 pub accepted_reply : (words : List (List ℕ)) (told : List ℕ → Option (List ℕ)) (before after : ℕ) (opened : Option (List ℕ)) (failed : Bool) (asked : Command) (name file : List ℕ) (status : ℕ) (text : List ℕ)
     → Asks words asked name → told name ≡ Some file → (Rose before after → ⊥) → module_fault file ≡ None → IsAccepted asked file
@@ -221,12 +275,12 @@ IfOk-map (Ok x) f holds = f x holds
 IfOk-map (Err e) f holds = tt
 
 -- the bytes of a module's image are those of its file
-bytes_of : (file : List ℕ) (m : Module) → IsModuleOf file m → m.image.bytes ≡ file
+pub bytes_of : (file : List ℕ) (m : Module) → IsModuleOf file m → m.image.bytes ≡ file
 unfolding image_of
 bytes_of file m of = ap (λ (i : Contents). i.bytes) of.image
 
 -- the module that a file gives
-module_is : (file : List ℕ) (m : Module) → IsModuleOf file m → m ≡ declared_module file
+pub module_is : (file : List ℕ) (m : Module) → IsModuleOf file m → m ≡ declared_module file
 module_is file m of = rw (sym of.functions, sym of.tables, sym of.image) refl
 
 abbrev Answer : Type 0
@@ -266,3 +320,116 @@ pub not_six : {A : Type 0} (result status : Status) {Rest : Type 0} → (status.
 not_six result status other written six =
     let whole = written (λ five. absurd (omega arith)) in
     absurd (other (sym (ap (λ (s : Status). s.0) whole.0) ∙ six))
+
+-- ---- the answers to a file and a report
+
+-- the words ask for one check
+same_check : {words : List (List ℕ)} {name other report other_report : List ℕ} → AsksCheck words name report → AsksCheck words other other_report → (name ≡ other) × (report ≡ other_report)
+same_check one two =
+    let e = sym one ∙ two in
+    (ap (λ (l : List (List ℕ)). get_or l 1 []) e, ap (λ (l : List (List ℕ)). get_or l 2 []) e)
+
+no_check : (words : List (List ℕ)) (name report : List ℕ) {status : ℕ} {text : List ℕ} → AsksCheck words name report → WithoutFile words status text → ⊥
+no_check words name report asks (usage none) = none (of_files name report asks)
+no_check words name report asks (generated functions number also) = two_words words name report functions number asks also
+no_check words name report asks (tested functions number status text also is) = check_or_test words name report functions number asks also
+
+-- where the words ask for a check, it is what is answered
+pub reply_checked : (words : List (List ℕ)) (told : List ℕ → Option (List ℕ)) (fault : List ℕ → Type 0) (name report : List ℕ) (status : ℕ) (text : List ℕ)
+    → AsksCheck words name report → Reply words told fault status text → CheckAnswered told fault name report status text
+reply_checked words told fault name report status text asks (without_file status' text' alone) = absurd (no_check words name report asks alone)
+reply_checked words told fault name report status text asks (read_fault other lent asks' failed) = absurd (two_lengths words other lent name report asks' asks)
+reply_checked words told fault name report status text asks (answered other lent read status' text' asks' are_told answer) = absurd (two_lengths words other lent name report asks' asks)
+reply_checked words told fault name report status text asks (checked lent other status' text' asks' answer) =
+    let same = same_check asks' asks in
+    subst (λ (r : List ℕ). CheckAnswered told fault name r status text) same.1 (subst (λ (n : List ℕ). CheckAnswered told fault n other status text) same.0 answer)
+
+-- the answer of a check, lent piece by piece
+pub lent_check : {words : List (List ℕ)} {told : List ℕ → Option (List ℕ)} {fault : List ℕ → Type 0} (name report : List ℕ) (status : ℕ) (made text : List ℕ) → AsksCheck words name report → text ≡ made → CheckAnswered told fault name report status made → Reply words told fault status text
+lent_check {words} {told} {fault} name report status made text asks same answer =
+    subst (λ (t : List ℕ). Reply words told fault status t) (sym same) (checked name report status made asks answer)
+
+-- on a told report that was read, the answer is that to its bytes
+report_checked : {m : Module} {told : Option (List ℕ)} {fault : Type 0} {status : ℕ} {text : List ℕ} (report : List ℕ) → told ≡ Some report → (status ≡ 4 → fault → ⊥) → ReportAnswered m told fault status text → Checked m report status text
+report_checked report is_told steady (report_unread failed) = absurd (steady refl failed)
+report_checked {m} {told} {fault} {status} {text} report is_told steady (report_read read status' text' are_told is) =
+    let same : read ≡ report = subst (λ (t : Option (List ℕ)). AreTold t read) is_told are_told in
+    subst (λ (r : List ℕ). Checked m r status text) same is
+
+file_checked : {file : List ℕ} {told : Option (List ℕ)} {fault : Type 0} {status : ℕ} {text : List ℕ} (report : List ℕ) → told ≡ Some report → (status ≡ 4 → fault → ⊥) → module_fault file ≡ None → FileAnswered file told fault status text → Checked (declared_module file) report status text
+file_checked report is_told steady rules (no_module rule offset broken) = absurd (apart (sym rules ∙ broken))
+file_checked report is_told steady rules (of_module status text rules' is) = report_checked report is_told steady is
+
+both_checked : (told : List ℕ → Option (List ℕ)) (fault : List ℕ → Type 0) (name report file bytes : List ℕ) (status : ℕ) (text : List ℕ)
+    → told name ≡ Some file → told report ≡ Some bytes → (status ≡ 4 → (lent : List ℕ) → fault lent → ⊥) → module_fault file ≡ None → CheckAnswered told fault name report status text → Checked (declared_module file) bytes status text
+both_checked told fault name report file bytes status text is_told also steady rules (file_unread failed) = absurd (steady refl name failed)
+both_checked told fault name report file bytes status text is_told also steady rules (file_read read status' text' are_told is) =
+    let same : read ≡ file = subst (λ (t : Option (List ℕ)). AreTold t read) is_told are_told in
+    file_checked bytes also (λ four failed. steady four report failed) rules (subst (λ (f : List ℕ). FileAnswered f (told report) (fault report) status text) same is)
+
+-- what was answered of a module and a report that were read is what `check` gives
+pub exact_check : {words : List (List ℕ)} {told : List ℕ → Option (List ℕ)} {fault : List ℕ → Type 0} {Wrote : List ℕ → Type 0} (result : ℕ)
+    → (result ≢ 5 → result ≢ 6 → (text : List ℕ) × Wrote text × Reply words told fault result text)
+    → (name report file bytes : List ℕ) → AsksCheck words name report → told name ≡ Some file → told report ≡ Some bytes → module_fault file ≡ None → result ≢ 4 → result ≢ 5 → result ≢ 6
+    → (text : List ℕ) × Wrote text × Checked (declared_module file) bytes result text
+exact_check {words} {told} {fault} {Wrote} result replied name report file bytes asks is_told also rules not_four not_five not_six =
+    let r = replied not_five not_six in
+    (r.0, r.1, both_checked told fault name report file bytes result r.0 is_told also (λ four lent failed. not_four four) rules (reply_checked words told fault name report result r.0 asks r.2))
+
+-- what status 0 and status 2 of `check` say, carried to the words that ask for it
+pub safe_check : {words : List (List ℕ)} (told : List ℕ → Option (List ℕ)) (result status : Status) (lent lent_report : List ℕ) {Rest : Type 0} → AsksCheck words lent lent_report
+    → (result.0 ≢ 5 → (result ≡ status) × Rest) → (status.0 ≡ 0 → (file bytes : List ℕ) × AreTold (told lent) file × AreTold (told lent_report) bytes × IsSandboxedByReport file bytes)
+    → (name report : List ℕ) → AsksCheck words name report → result.0 ≡ 0 → (file bytes : List ℕ) × AreTold (told name) file × AreTold (told report) bytes × IsSandboxedByReport file bytes
+safe_check {words} told result status lent lent_report asks written found name report also zero =
+    let whole = written (λ five. absurd (omega arith)) in
+    let same = same_check asks also in
+    let f = found (sym (ap (λ (s : Status). s.0) whole.0) ∙ zero) in
+    (f.0, f.1, subst (λ (n : List ℕ). AreTold (told n) f.0) same.0 f.2, subst (λ (n : List ℕ). AreTold (told n) f.1) same.1 f.3, f.4)
+
+pub unread_check : {words : List (List ℕ)} (opened : Option (List ℕ)) (result status : Status) (lent lent_report : List ℕ) {Rest : Type 0} → AsksCheck words lent lent_report
+    → (result.0 ≢ 5 → (result ≡ status) × Rest) → (status.0 ≡ 2 → opened ≡ Some lent)
+    → (name report : List ℕ) → AsksCheck words name report → result.0 ≡ 2 → opened ≡ Some name
+unread_check {words} opened result status lent lent_report asks written found name report also two =
+    let whole = written (λ five. absurd (omega arith)) in
+    let same = same_check asks also in
+    found (sym (ap (λ (s : Status). s.0) whole.0) ∙ two) ∙ ap Some same.0
+
+-- words that ask for a command on one file ask for no check
+pub no_check_asked : {A : Type 0} {words : List (List ℕ)} (asked : Command) (name file report : List ℕ) → Asks words asked name → AsksCheck words file report → A
+no_check_asked {A} {words} asked name file report asks also = absurd (two_lengths words asked name file report asks also)
+
+-- where the shelf told both and no call failed, the answer is that to the bytes
+pub told_checked : (words : List (List ℕ)) (told : List ℕ → Option (List ℕ)) (before after : ℕ) (opened : Option (List ℕ)) (failed : Bool) (name report file bytes : List ℕ) (status : ℕ) (text : List ℕ)
+    → AsksCheck words name report → told name ≡ Some file → told report ≡ Some bytes → (Rose before after → ⊥) → module_fault file ≡ None
+    → Reply words told (ReadFailed before after opened failed) status text → Checked (declared_module file) bytes status text
+told_checked words told before after opened failed name report file bytes status text asks is_told also steady rules reply =
+    both_checked told (ReadFailed before after opened failed) name report file bytes status text is_told also (λ four lent fault. steady fault.0) rules
+    (reply_checked words told (ReadFailed before after opened failed) name report status text asks reply)
+
+-- ---- the answers to words that ask for a module
+
+alone_written : (words : List (List ℕ)) (functions number status : ℕ) (text : List ℕ) → AsksModule words functions number → WithoutFile words status text → (status ≡ 0) × (text ≡ made_file functions number)
+alone_written words functions number status text asks (usage none) = absurd (none (of_numbers functions number asks))
+alone_written words functions number status text asks (generated others other also) =
+    let same = same_numbers (codes "make") others other functions number also asks in
+    (refl, ap (λ (f : ℕ). made_file f other) same.0 ∙ ap (λ (n : ℕ). made_file functions n) same.1)
+alone_written words functions number status text asks (tested others other status' text' also is) = absurd (write_or_test words functions number others other asks also)
+
+alone_tested : (words : List (List ℕ)) (functions number status : ℕ) (text : List ℕ) → AsksTest words functions number → WithoutFile words status text → SelfTested functions number status text
+alone_tested words functions number status text asks (usage none) = absurd (none (of_test functions number asks))
+alone_tested words functions number status text asks (generated others other also) = absurd (write_or_test words others other functions number also asks)
+alone_tested words functions number status text asks (tested others other status' text' also is) =
+    let same = same_numbers (codes "selftest") others other functions number also asks in
+    subst (λ (n : ℕ). SelfTested functions n status text) same.1 (subst (λ (f : ℕ). SelfTested f other status text) same.0 is)
+
+pub reply_written : (words : List (List ℕ)) (told : List ℕ → Option (List ℕ)) (fault : List ℕ → Type 0) (functions number status : ℕ) (text : List ℕ) → AsksModule words functions number → Reply words told fault status text → (status ≡ 0) × (text ≡ made_file functions number)
+reply_written words told fault functions number status text asks (without_file status' text' is) = alone_written words functions number status text asks is
+reply_written words told fault functions number status text asks (read_fault other lent asks' failed) = absurd (two_forms words (codes "make") other lent functions number asks' asks)
+reply_written words told fault functions number status text asks (answered other lent read status' text' asks' are_told answer) = absurd (two_forms words (codes "make") other lent functions number asks' asks)
+reply_written words told fault functions number status text asks (checked lent report status' text' asks' answer) = absurd (two_words words lent report functions number asks' asks)
+
+pub reply_tested : (words : List (List ℕ)) (told : List ℕ → Option (List ℕ)) (fault : List ℕ → Type 0) (functions number status : ℕ) (text : List ℕ) → AsksTest words functions number → Reply words told fault status text → SelfTested functions number status text
+reply_tested words told fault functions number status text asks (without_file status' text' is) = alone_tested words functions number status text asks is
+reply_tested words told fault functions number status text asks (read_fault other lent asks' failed) = absurd (two_forms words (codes "selftest") other lent functions number asks' asks)
+reply_tested words told fault functions number status text asks (answered other lent read status' text' asks' are_told answer) = absurd (two_forms words (codes "selftest") other lent functions number asks' asks)
+reply_tested words told fault functions number status text asks (checked lent report status' text' asks' answer) = absurd (check_or_test words lent report functions number asks' asks)

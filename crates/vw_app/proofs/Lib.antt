@@ -7,5 +7,9 @@ pub mod Reports
 pub mod Told
 pub mod Names
 pub mod Answers
+pub mod Checks
+pub mod OneCheck
+pub mod Readback
+pub mod Selftests
 pub mod RoundTrips
 pub mod Sample

@@ -30,6 +30,11 @@ usage_line =
 unfoldable pub safe_line : ℕ → List ℕ
 safe_line count = line (codes "safe, functions " ++ decimal count)
 
+-- a count of functions, and one of states
+unfoldable pub selftest_line : ℕ → ℕ → List ℕ
+selftest_line functions states =
+    line (codes "selftest, functions " ++ decimal functions ++ codes ", instructions " ++ decimal states ++ codes ", safe, rechecked")
+
 unfoldable pub read_fault_line : List ℕ
 read_fault_line = line (codes "read fault")
 
@@ -37,16 +42,21 @@ read_fault_line = line (codes "read fault")
 unfoldable pub malformed_line : ℕ → ℕ → List ℕ
 malformed_line rule offset = line (codes "malformed, rule " ++ decimal rule ++ codes " at " ++ decimal offset)
 
--- the word of a check
+-- the first line of a report that is in error, counted from 1, and 0 of a report that is too long
+unfoldable pub bad_report_line : ℕ → List ℕ
+bad_report_line number = line (codes "bad report, line " ++ decimal number)
+
+-- the word of a check; 0 is that tables are a solution
 abbrev pub check_word : ℕ → List ℕ
 check_word check =
-    if check == 1 then codes "code"
+    if check == 0 then codes "table"
+    else (if check == 1 then codes "code"
     else (if check == 2 then codes "jump"
     else (if check == 3 then codes "depth"
     else (if check == 4 then codes "address"
     else (if check == 5 then codes "read only"
     else (if check == 6 then codes "local"
-    else (if check == 7 then codes "call" else codes "return"))))))
+    else (if check == 7 then codes "call" else codes "return")))))))
 
 -- a check: its number and its word
 abbrev pub check_text : ℕ → List ℕ

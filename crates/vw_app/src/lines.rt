@@ -1,8 +1,11 @@
 ghost use Rattle.std.specs.Prelude.{◌≡◌, ◌++◌, IfOk, OnOk};
-ghost use Rattle.vw_app.specs.Lines.{line, name_byte, name_text, safe_line, unsafe_line, check_text, check_word, malformed_line};
+ghost use Rattle.vw_app.specs.Lines.{line, name_byte, name_text, safe_line, selftest_line, unsafe_line, check_text, check_word, malformed_line, read_fault_line, bad_report_line};
 
 use std::alloc::Global;
 use vw_bits::{OutOfMemory, Text};
+
+/// The line for a file that was not read.
+pub const READ_FAULT: &[u8] = b"read fault\n";
 
 /// The line for a module whose functions are all safe, of which there are so many.
 pub fn safe_text(alloc: Global, functions: usize) -> Result<Text, OutOfMemory>
@@ -11,6 +14,21 @@ pub fn safe_text(alloc: Global, functions: usize) -> Result<Text, OutOfMemory>
     let mut text = Text::new(alloc);
     text.push(b"safe, functions ")?;
     text.dec(functions as u64)?;
+    text.push(b"\n")?;
+    Ok(text)
+}
+
+/// The line for a module that was made, judged safe and rechecked, which has so many functions, and so many states in its
+/// least tables.
+pub fn selftest_text(alloc: Global, functions: usize, states: u64) -> Result<Text, OutOfMemory>
+    ensures { IfOk result (λ text. text ≡ selftest_line functions states) }
+{
+    let mut text = Text::new(alloc);
+    text.push(b"selftest, functions ")?;
+    text.dec(functions as u64)?;
+    text.push(b", instructions ")?;
+    text.dec(states)?;
+    text.push(b", safe, rechecked")?;
     text.push(b"\n")?;
     Ok(text)
 }
@@ -30,7 +48,7 @@ pub fn unsafe_text(alloc: Global, name: &[u8], at: u32, check: u8) -> Result<Tex
     Ok(text)
 }
 
-/// Appends a check, by its number from 1 to 8: the number and its word.
+/// Appends a check, by its number from 0 to 8: the number and its word.
 fn push_check(text: &mut Text, check: u8) -> Result<(), OutOfMemory>
     ensures { OnOk result (text.new ≡ text.old ++ check_text check) }
 {
@@ -40,11 +58,12 @@ fn push_check(text: &mut Text, check: u8) -> Result<(), OutOfMemory>
     text.push(check_word(check))
 }
 
-/// The word of a check, by its number from 1 to 8.
+/// The word of a check, by its number from 0 to 8; 0 is that tables are a solution.
 fn check_word(check: u8) -> &'static [u8]
     ensures { result.now ≡ check_word check }
 {
     match check {
+        0 => b"table",
         1 => b"code",
         2 => b"jump",
         3 => b"depth",
@@ -65,6 +84,26 @@ pub fn malformed_text(alloc: Global, rule: u8, offset: u64) -> Result<Text, OutO
     text.dec(rule as u64)?;
     text.push(b" at ")?;
     text.dec(offset)?;
+    text.push(b"\n")?;
+    Ok(text)
+}
+
+/// The line for a file that was not read.
+pub fn read_fault_text(alloc: Global) -> Result<Text, OutOfMemory>
+    ensures { IfOk result (λ text. text ≡ read_fault_line) }
+{
+    let mut text = Text::new(alloc);
+    text.push(READ_FAULT)?;
+    Ok(text)
+}
+
+/// The line for a report that is not read, with its first line in error, counted from 1, or 0 where the report is too long.
+pub fn bad_report_text(alloc: Global, line: u64) -> Result<Text, OutOfMemory>
+    ensures { IfOk result (λ text. text ≡ bad_report_line line) }
+{
+    let mut text = Text::new(alloc);
+    text.push(b"bad report, line ")?;
+    text.dec(line)?;
     text.push(b"\n")?;
     Ok(text)
 }

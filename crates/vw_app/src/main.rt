@@ -1,13 +1,16 @@
 //! Decides whether the functions of a module stay inside their sandbox.
 #![tactic(auto)]
 
+mod check;
 mod info;
 mod laws;
+mod limits;
 mod lines;
 mod listing;
 mod program;
 mod request;
 mod round_trip;
+mod selftest;
 mod status;
 mod verdict;
 

@@ -1,6 +1,6 @@
 ghost use Rattle.std.specs.Prelude.{◌≡◌, ◌↔◌, ◌^◌, ◌<◌, ◌≤◌, map, string_bytes, IsTrue, IfSome, IfNone, List, ℕ};
 ghost use Rattle.std.specs.Fmt.{decimal};
-ghost use Rattle.vw_app.specs.Answer.{Asks, AsksModule, word};
+ghost use Rattle.vw_app.specs.Answer.{Asks, AsksCheck, AsksModule, AsksTest, word};
 
 use vw_report::decimal_of;
 
@@ -41,6 +41,20 @@ fn command_of(command: &String) -> Option<Command>
     }
 }
 
+/// The names of the file and of the report that the words ask to be checked. None where they ask for no such check.
+pub fn report_of<'a>(words: &'a [String]) -> Option<(&'a str, &'a str)>
+    ensures asks { IfSome result (λ names. AsksCheck (map string_bytes words.now) names.0.now names.1.now) }
+    ensures none { IfNone result ((name report : List ℕ) → AsksCheck (map string_bytes words.now) name report → ⊥) }
+{
+    match words {
+        [command, file, report] => match command.as_str() {
+            "check" => Some((file.as_str(), report.as_str())),
+            _ => None,
+        },
+        _ => None,
+    }
+}
+
 /// The number of functions, 1 to 65,536, and the number from which the words ask a module to be made. None where they ask
 /// for no such module.
 pub fn module_of(words: &[String]) -> Option<(u32, u64)>
@@ -51,6 +65,22 @@ pub fn module_of(words: &[String]) -> Option<(u32, u64)>
     match words {
         [command, functions, number] => match command.as_str() {
             "make" => numbers_of(functions, number),
+            _ => None,
+        },
+        _ => None,
+    }
+}
+
+/// The number of functions, 1 to 65,536, and the number of the module with which the words ask for a test. None where they
+/// ask for none.
+pub fn test_of(words: &[String]) -> Option<(u32, u64)>
+    ensures asks { IfSome result (λ numbers. AsksTest (map string_bytes words.now) numbers.0 numbers.1) }
+    ensures none { IfNone result ((functions number : ℕ)
+        → AsksTest (map string_bytes words.now) functions number → ⊥) }
+{
+    match words {
+        [command, functions, number] => match command.as_str() {
+            "selftest" => numbers_of(functions, number),
             _ => None,
         },
         _ => None,

@@ -17,4 +17,6 @@ impl Status {
     pub const WRITE_FAULT: Status = Status(5);
     /// Memory was refused.
     pub const OUT_OF_MEMORY: Status = Status(6);
+    /// A report was not read.
+    pub const BAD_REPORT: Status = Status(7);
 }

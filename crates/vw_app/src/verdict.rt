@@ -6,6 +6,7 @@ ghost use Rattle.vw_checks.specs.Modules.{IsNumbered};
 ghost use Rattle.vw_sandbox.specs.Sandboxed.{IsSandboxedFile};
 ghost use Rattle.vw_verdict.specs.Verdicts.{IsPlaceOf};
 ghost use Rattle.vw_app.specs.Answer.{IsLeastReport, IsSafeLine, Judged};
+ghost use Rattle.vw_app.specs.Check.{IsNameAt, IsPlaceLine};
 ghost use Rattle.vw_app.specs.Lines.{unsafe_line};
 
 use crate::lines::{safe_text, unsafe_text};
@@ -99,27 +100,29 @@ fn report_from<L: Ledger>(
 }
 
 /// The line for a place of the module where a check fails.
-fn place_text(alloc: Global, loaded: &Module, place: Place) -> Result<Text, OutOfMemory>
+pub fn place_text(alloc: Global, loaded: &Module, place: Place) -> Result<Text, OutOfMemory>
     requires { IsWhole loaded.now }
-    ensures { IfOk result (λ text. (fails : IsPlaceOf loaded.now place) → text ≡ unsafe_line fails.function.name place.at place.check) }
+    ensures place { IfOk result (λ text. (fails : IsPlaceOf loaded.now place) → text ≡ unsafe_line fails.function.name place.at place.check) }
+    ensures line { IfOk result (IsPlaceLine loaded.now place) }
 {
     unsafe_text(alloc, name_at(loaded, place.entry), place.at, place.check)
 }
 
-/// The name of the declared function that begins at an address.
+/// The name of the declared function that begins at an address, and `?` where none does.
 fn name_at<'a>(loaded: &'a Module, entry: u64) -> &'a [u8]
     requires { IsWhole loaded.now }
-    ensures { (number : ℕ) (f : Function) → IsNumbered loaded.now number f → entry ≡ f.entry → result.now ≡ f.name }
+    ensures numbered { (number : ℕ) (f : Function) → IsNumbered loaded.now number f → entry ≡ f.entry → result.now ≡ f.name }
+    ensures name { IsNameAt loaded.now entry result.now }
 {
     functions_ascend();
     match loaded.function_at(entry) {
         Some(number) => loaded.functions.as_slice()[number as usize].name.as_slice(),
-        None => b"",
+        None => b"?",
     }
 }
 
-// The same bytes, each below 256.
-fn as_bytes(bytes: &[u8]) -> &[u8]
+/// The same bytes, each below 256.
+pub fn as_bytes(bytes: &[u8]) -> &[u8]
     ensures same { result.now ≡ bytes.now }
     ensures bytes { IsBytes result.now }
 {

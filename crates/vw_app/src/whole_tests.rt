@@ -2,6 +2,8 @@ ghost use Rattle.std.specs.Prelude.{◌≡◌, [], ◌∷◌, Some, None, IfOk};
 ghost use Rattle.vw_make.specs.Bounds.{MeetsBounds};
 ghost use Rattle.vw_make.specs.declared.parts.Target.{Target};
 
+use crate::selftest::selftest;
+use crate::status::Status;
 use crate::tests::expect;
 use std::alloc::Global;
 use std::fs;
@@ -239,6 +241,40 @@ fn written_modules(rt: HostRuntime) -> Result<(), Fail> {
         }
         let mut shelf = NeverFails::new(List::from_vec(bytes));
         expect(&rt, &["verify", "m"], &mut shelf, &[], (status, text))?;
+    }
+    Ok(())
+}
+
+// Modules that are made from a number. Their functions have 3, 7, 10, 9, 6, 4, 13 and 6 instructions in turn, each of which is
+// reached, so that each has a state.
+#[test]
+fn made_modules(rt: HostRuntime) -> Result<(), Fail> {
+    for (functions, number, wanted) in [
+        (
+            1,
+            0,
+            "selftest, functions 1, instructions 3, safe, rechecked\n",
+        ),
+        (
+            3,
+            5,
+            "selftest, functions 3, instructions 20, safe, rechecked\n",
+        ),
+        (
+            8,
+            1,
+            "selftest, functions 8, instructions 58, safe, rechecked\n",
+        ),
+        (
+            12,
+            7,
+            "selftest, functions 12, instructions 87, safe, rechecked\n",
+        ),
+    ] {
+        assert!(rt; functions <= 65_536);
+        let (status, text) = selftest(rt.alloc(), functions, number)?;
+        assert_eq!(rt; status, Status::DONE);
+        assert_eq!(rt; text.as_slice(), wanted.as_bytes());
     }
     Ok(())
 }

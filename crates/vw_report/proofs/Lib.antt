@@ -21,3 +21,4 @@ mod FunctionLoop
 mod ReportLoop
 mod OneReading
 mod OneText
+mod LeastPoints

@@ -7,3 +7,4 @@ pub mod NumberItems
 pub mod Grammar
 pub mod Reports
 pub mod Listings
+pub mod Least

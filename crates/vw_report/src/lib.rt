@@ -15,7 +15,9 @@ mod report_laws;
 pub use print_tables::write_report;
 pub use read_numbers::decimal_of;
 pub use read_tables::{ReportError, read_report};
-pub use report_laws::{tables_have_one_text, texts_tell_tables};
+pub use report_laws::{least_tables_are_of_points, tables_have_one_text, texts_tell_tables};
 
+#[cfg(test)]
+mod byte_tests;
 #[cfg(test)]
 mod tests;

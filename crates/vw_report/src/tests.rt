@@ -20,7 +20,7 @@ fn tables_of(alloc: Global, entry: u64, at: u32, state: State) -> Result<Tables,
 #[test]
 fn prints_the_entry_state(rt: HostRuntime) -> Result<(), Fail> {
     let alloc = rt.alloc();
-    let tables = tables_of(alloc, 0x78, 0, entry_state(alloc))?;
+    let tables = tables_of(alloc, 0x78, 0, entry_state(alloc)?)?;
     let text = write_report(alloc, &tables)?;
     assert!(rt;
         text.as_slice()
@@ -147,7 +147,7 @@ fn prints_each_field(rt: HostRuntime) -> Result<(), Fail> {
 }
 
 // What is read of a text: the line of the fault, 0 where there is none.
-fn fault(alloc: Global, text: &[u8]) -> Result<u64, OutOfMemory> {
+pub fn fault(alloc: Global, text: &[u8]) -> Result<u64, OutOfMemory> {
     match read_report(alloc, text) {
         Ok(_) => Ok(0),
         Err(ReportError::Fault { line }) => Ok(line),

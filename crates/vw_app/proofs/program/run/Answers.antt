@@ -1,23 +1,13 @@
 use Rattle.std.proofs.Common.{ℕ, List, refl}
 use Rattle.vw_outside.specs.Shelf.{Rose}
 use Rattle.vw_outside.specs.Sink.{Appended, AppendedFront}
-use Rattle.vw_app.specs.Answer.{Reply, without_file, read_fault, of_file}
+use Rattle.vw_app.specs.Answer.{Reply, read_fault, of_file}
 use Rattle.vw_app.specs.Lines.{read_fault_line}
-use Rattle.vw_app.proofs.Answers.{replied, cut_short, reply_to, reply_too_long, safe_reply, exact_reply, not_six}
+use Rattle.vw_app.proofs.Answers.{replied, cut_short, reply_to, reply_too_long, safe_reply, exact_reply, exact_check, no_check_asked, no_test_of_file, not_six}
 use Rattle.vw_app.proofs.program.run.Goals as goal
 
-pub without_file-requires : goal.without_file-requires
-without_file-requires g c = rw c.in_default.is at c.request_of.ensures.none
-
-pub returns-in_default-clause-replied : goal.returns-in_default-clause-replied
-returns-in_default-clause-replied g c not_five not_six =
-    let r = c.without_file.ensures.replied not_five not_six in
-    (r.0, r.1, without_file c.without_file.result.0 r.0 r.2)
-
-pub returns-in_default-clause-write_fault : goal.returns-in_default-clause-write_fault
-returns-in_default-clause-write_fault g c five =
-    let f = c.without_file.ensures.write_fault five in
-    (f.0, f.1, f.2, f.3, without_file f.1 f.2 f.4)
+pub with_report-requires : goal.with_report-requires
+with_report-requires g c = rw c.in_default.is at c.request_of.ensures.none
 
 pub returns-in_default-clause-safe : goal.returns-in_default-clause-safe
 returns-in_default-clause-safe g c command name judges asks zero = absurd ((rw c.in_default.is at c.request_of.ensures.none) command name asks)
@@ -71,7 +61,10 @@ returns-in-Ok-malformed_text-clause-write_fault g c =
     c.finish-in-Ok-malformed_text.ensures.failed
 
 pub returns-in_default-clause-exact : goal.returns-in_default-clause-exact
-returns-in_default-clause-exact g c = exact_reply _ (returns-in_default-clause-replied g c)
+returns-in_default-clause-exact g c = exact_reply _ c.with_report.ensures.replied
+
+pub returns-in_default-clause-exact_report : goal.returns-in_default-clause-exact_report
+returns-in_default-clause-exact_report g c = exact_check _ c.with_report.ensures.replied
 
 pub returns-in-Ok-answer-clause-exact : goal.returns-in-Ok-answer-clause-exact
 returns-in-Ok-answer-clause-exact g c = exact_reply _ (returns-in-Ok-answer-clause-replied g c)
@@ -90,3 +83,39 @@ returns-in-Err-malformed_text-clause-memory g c six = (refl, of_file c.in-Some.c
 
 pub returns-in-Err-Memory-clause-memory : goal.returns-in-Err-Memory-clause-memory
 returns-in-Err-Memory-clause-memory g c six = (refl, of_file c.in-Some.command c.in-Some.name.now c.in-Some.ensures.asks)
+
+pub returns-in-Ok-answer-clause-safe_report : goal.returns-in-Ok-answer-clause-safe_report
+returns-in-Ok-answer-clause-safe_report g c name report asks zero = no_check_asked c.in-Some.command c.in-Some.name.now name report c.in-Some.ensures.asks asks
+
+pub returns-in-Ok-answer-clause-exact_report : goal.returns-in-Ok-answer-clause-exact_report
+returns-in-Ok-answer-clause-exact_report g c name report file bytes asks told also rules not_four not_five not_six = no_check_asked c.in-Some.command c.in-Some.name.now name report c.in-Some.ensures.asks asks
+
+pub returns-in-Ok-answer-clause-unread : goal.returns-in-Ok-answer-clause-unread
+returns-in-Ok-answer-clause-unread g c name report asks two = no_check_asked c.in-Some.command c.in-Some.name.now name report c.in-Some.ensures.asks asks
+
+pub returns-in-Err-Fault-clause-safe_report : goal.returns-in-Err-Fault-clause-safe_report
+returns-in-Err-Fault-clause-safe_report g c name report asks zero = no_check_asked c.in-Some.command c.in-Some.name.now name report c.in-Some.ensures.asks asks
+
+pub returns-in-Err-Fault-clause-exact_report : goal.returns-in-Err-Fault-clause-exact_report
+returns-in-Err-Fault-clause-exact_report g c name report file bytes asks told also rules not_four not_five not_six = no_check_asked c.in-Some.command c.in-Some.name.now name report c.in-Some.ensures.asks asks
+
+pub returns-in-Err-Fault-clause-unread : goal.returns-in-Err-Fault-clause-unread
+returns-in-Err-Fault-clause-unread g c name report asks two = no_check_asked c.in-Some.command c.in-Some.name.now name report c.in-Some.ensures.asks asks
+
+pub returns-in-Ok-malformed_text-clause-safe_report : goal.returns-in-Ok-malformed_text-clause-safe_report
+returns-in-Ok-malformed_text-clause-safe_report g c name report asks zero = no_check_asked c.in-Some.command c.in-Some.name.now name report c.in-Some.ensures.asks asks
+
+pub returns-in-Ok-malformed_text-clause-exact_report : goal.returns-in-Ok-malformed_text-clause-exact_report
+returns-in-Ok-malformed_text-clause-exact_report g c name report file bytes asks told also rules not_four not_five not_six = no_check_asked c.in-Some.command c.in-Some.name.now name report c.in-Some.ensures.asks asks
+
+pub returns-in-Ok-malformed_text-clause-unread : goal.returns-in-Ok-malformed_text-clause-unread
+returns-in-Ok-malformed_text-clause-unread g c name report asks two = no_check_asked c.in-Some.command c.in-Some.name.now name report c.in-Some.ensures.asks asks
+
+pub returns-in-Ok-answer-clause-safe_test : goal.returns-in-Ok-answer-clause-safe_test
+returns-in-Ok-answer-clause-safe_test g c functions number asks zero = no_test_of_file c.in-Some.command c.in-Some.name.now functions number c.in-Some.ensures.asks asks
+
+pub returns-in-Err-Fault-clause-safe_test : goal.returns-in-Err-Fault-clause-safe_test
+returns-in-Err-Fault-clause-safe_test g c functions number asks zero = no_test_of_file c.in-Some.command c.in-Some.name.now functions number c.in-Some.ensures.asks asks
+
+pub returns-in-Ok-malformed_text-clause-safe_test : goal.returns-in-Ok-malformed_text-clause-safe_test
+returns-in-Ok-malformed_text-clause-safe_test g c functions number asks zero = no_test_of_file c.in-Some.command c.in-Some.name.now functions number c.in-Some.ensures.asks asks

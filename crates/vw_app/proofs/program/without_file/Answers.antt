@@ -27,7 +27,7 @@ pub returns-in-None-clause-replied : goal.returns-in-None-clause-replied
 unfolding usage_line
 returns-in-None-clause-replied g c =
     replied (WithoutFile (map string_bytes c.args.words.now)) (λ (text : List ℕ). Appended (g.K.Sink.written c.args.sink.now) (g.K.Sink.written c.finish-in-None.new.sink) text) c.finish-in-None.result (record { 0 = 3 }) _
-    (usage (no_form c.requires c.in-None.ensures.none))
+    (usage (no_form c.requires.file c.requires.report c.requires.test c.in-None.ensures.none))
     c.finish-in-None.ensures.done
 
 pub returns-in-None-clause-write_fault : goal.returns-in-None-clause-write_fault
@@ -35,5 +35,5 @@ unfolding usage_line
 returns-in-None-clause-write_fault g c =
     cut_short (WithoutFile (map string_bytes c.args.words.now)) (λ (text : List ℕ). AppendedFront (g.K.Sink.written c.args.sink.now) (g.K.Sink.written c.finish-in-None.new.sink) text) c.finish-in-None.result.0 (record { 0 = 3 }) _
     (Rose (g.K.Sink.faults c.args.sink.now) (g.K.Sink.faults c.finish-in-None.new.sink))
-    (usage (no_form c.requires c.in-None.ensures.none))
+    (usage (no_form c.requires.file c.requires.report c.requires.test c.in-None.ensures.none))
     c.finish-in-None.ensures.failed

@@ -17,4 +17,4 @@ returns-in-Safe-clause-safe g c zero =
 
 pub returns-clause-judged : goal.returns-clause-judged
 returns-clause-judged g c =
-    unsafe_judged c.args.loaded.now (IsLeastReport c.args.loaded.now) c.in-Unsafe.place c.in_ok-place_text-in-Unsafe.field-0 (rw c.in-Unsafe.is at c.in_ok-tables.ensures.judged) c.in_ok-place_text-in-Unsafe.ensures
+    unsafe_judged c.args.loaded.now (IsLeastReport c.args.loaded.now) c.in-Unsafe.place c.in_ok-place_text-in-Unsafe.field-0 (rw c.in-Unsafe.is at c.in_ok-tables.ensures.judged) c.in_ok-place_text-in-Unsafe.ensures.place

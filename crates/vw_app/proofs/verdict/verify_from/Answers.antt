@@ -17,4 +17,4 @@ returns-in-None-clause-safe g c zero =
 
 pub returns-clause-judged : goal.returns-clause-judged
 returns-clause-judged g c =
-    unsafe_judged c.args.loaded.now (IsSafeLine c.args.loaded.now) c.in-Some.place c.in_ok-place_text-in-Some.field-0 (rw c.in-Some.is at c.in_ok-find_place.ensures.judged) c.in_ok-place_text-in-Some.ensures
+    unsafe_judged c.args.loaded.now (IsSafeLine c.args.loaded.now) c.in-Some.place c.in_ok-place_text-in-Some.field-0 (rw c.in-Some.is at c.in_ok-find_place.ensures.judged) c.in_ok-place_text-in-Some.ensures.place
