@@ -3,3 +3,4 @@ pub mod PlaceLemmas
 pub mod OverlapLemmas
 pub mod FaultLemmas
 pub mod BoundLemmas
+pub mod ImportLemmas

@@ -1,12 +1,17 @@
-ghost use Rattle.std.specs.Prelude.{◌≡◌, ◌+◌, ◌<◌, ◌≤◌, ◌^◌, length, Some, None, IfOk, IfErr, OnOk};
+ghost use Rattle.std.specs.Prelude.{◌≡◌, ◌≢◌, ◌+◌, ◌<◌, ◌≤◌, ◌^◌, not, true, false, length, Some, None, IfOk, IfErr, OnOk};
+ghost use Rattle.std.specs.List.{find};
+ghost use Rattle.std.specs.Option.{option_map_or};
 ghost use Rattle.vw_bits.specs.Headers.{segments_of, dynamics_of};
-ghost use Rattle.vw_bits.specs.Rules.{lowest_broken, AllHold};
+ghost use Rattle.vw_bits.specs.Rules.{unless, lowest_broken, AllHold};
 ghost use Rattle.vw_bits.specs.HeaderRules.{header_fault};
 ghost use Rattle.vw_dynamic.specs.Bounds.{AreBounded};
-ghost use Rattle.vw_dynamic.specs.Faults.{Names};
+ghost use Rattle.vw_dynamic.specs.Faults.{Names, Tells};
+ghost use Rattle.vw_dynamic.specs.Names.{with_name};
+ghost use Rattle.vw_dynamic.specs.Relas.{is_known, rela_offset};
+ghost use Rattle.vw_dynamic.specs.declared.faults.DynError.TheVariants.{Fault};
 ghost use Rattle.vw_dynamic.specs.Entries.{section_entries, second_header};
 ghost use Rattle.vw_dynamic.specs.Directory.{directory_of};
-ghost use Rattle.vw_dynamic.specs.Targets.{kind_of, imports_of, relocations_of};
+ghost use Rattle.vw_dynamic.specs.Targets.{is_unresolved, import_of, kind_of, imports_of, relocations_of};
 ghost use Rattle.vw_dynamic.specs.Dynamic.{section_rules, entry_rules, rela_rules, dynamic_fault, file_imports, file_relocations};
 
 use crate::directory::{
@@ -16,12 +21,12 @@ use crate::entries::{Entry, first_forbidden, first_repeated, read_entries};
 use crate::faults::refuse;
 use crate::places::file_offset;
 use crate::relas::{
-    R_64, R_NONE, R_RELATIVE, Rela, first_misplaced, first_overlap, first_unknown, read_relas,
+    R_NONE, R_RELATIVE, Rela, first_misplaced, first_overlap, first_unknown, read_relas,
 };
-use crate::symbols::{first_unresolved, import_of, strings_of, symbol_of};
+use crate::symbols::{bound_name, defined_word, is_import, strings_of, symbol_of};
 use crate::{DynError, Imports};
 use std::alloc::Global;
-use vw_bits::{DynHeader, List, OutOfMemory, Segment};
+use vw_bits::{DynHeader, List, Segment};
 
 /// A relocation of eight bytes (gABI, "Relocation").
 #[derive(Clone, Copy, Debug, PartialEq, Eq)]
@@ -83,10 +88,7 @@ impl Dynamic {
         let relas = read_relas(alloc, bytes, segments, &directory).map_err(DynError::Memory)?;
         let strings = strings_of(bytes, segments, &directory);
         let symtab = directory.symtab;
-        check_relas(alloc, bytes, segments, strings, symtab, relas.as_slice())?;
-        let dynamic = bind(alloc, bytes, segments, strings, symtab, relas.as_slice()).map_err(
-            DynError::Memory,
-        )?;
+        let dynamic = bind(alloc, bytes, segments, strings, symtab, relas.as_slice())?;
         Ok(dynamic)
     }
 }
@@ -142,30 +144,7 @@ fn check_entries(segments: &[Segment], entries: &[Entry]) -> Result<Directory, D
     Ok(directory)
 }
 
-// Rules 23 to 26: each relocation by itself, and no two of one byte.
-fn check_relas(
-    alloc: Global,
-    bytes: &[u8],
-    segments: &[Segment],
-    strings: &[u8],
-    symtab: Option<u64>,
-    relas: &[Rela],
-) -> Result<(), DynError>
-    requires inside { AreBounded (length bytes.now) segments.now }
-    requires small { AreBounded (2 ^ 32) segments.now }
-    ensures ok { OnOk result (AllHold (rela_rules bytes.now segments.now strings.now symtab relas.now)) }
-    ensures fault { IfErr result (Names (lowest_broken 23 (rela_rules bytes.now segments.now strings.now symtab relas.now))) }
-{
-    refuse(23, first_unknown(relas))?;
-    refuse(24, first_misplaced(segments, relas))?;
-    refuse(25, first_overlap(alloc, relas).map_err(DynError::Memory)?)?;
-    refuse(
-        26,
-        first_unresolved(bytes, segments, strings, symtab, relas),
-    )
-}
-
-// The relocations with what they resolve to.
+// Rules 23 to 26, each relocation by itself and no two of one byte; and what the relocations resolve to.
 fn bind(
     alloc: Global,
     bytes: &[u8],
@@ -173,95 +152,116 @@ fn bind(
     strings: &[u8],
     symtab: Option<u64>,
     relas: &[Rela],
-) -> Result<Dynamic, OutOfMemory>
+) -> Result<Dynamic, DynError>
     requires inside { AreBounded (length bytes.now) segments.now }
     requires small { AreBounded (2 ^ 32) segments.now }
     requires few { length relas.now + 1 < 2 ^ 32 }
-    ensures imports { IfOk result (λ dynamic. dynamic.imports ≡ imports_of bytes.now segments.now strings.now symtab relas.now) }
+    ensures ok { OnOk result (AllHold
+        (rela_rules bytes.now segments.now strings.now symtab relas.now)) }
+    ensures fault { IfErr result (Names (lowest_broken 23
+        (rela_rules bytes.now segments.now strings.now symtab relas.now))) }
+    ensures imports { IfOk result (λ dynamic. dynamic.imports
+        ≡ imports_of bytes.now segments.now strings.now symtab relas.now) }
     ensures relocations { IfOk result (λ dynamic. dynamic.relocations
-        ≡ relocations_of bytes.now segments.now strings.now symtab (imports_of bytes.now segments.now strings.now symtab relas.now) relas.now) }
+        ≡ relocations_of bytes.now segments.now strings.now symtab
+        (imports_of bytes.now segments.now strings.now symtab relas.now) relas.now) }
 {
-    let imports = collect_imports(alloc, bytes, segments, strings, symtab, relas)?;
-    let relocations = resolve(alloc, bytes, segments, strings, symtab, &imports, relas)?;
-    Ok(Dynamic {
-        relocations,
-        imports,
-    })
+    refuse(23, first_unknown(relas))?;
+    refuse(24, first_misplaced(segments, relas))?;
+    refuse(25, first_overlap(alloc, relas).map_err(DynError::Memory)?)?;
+    resolve(alloc, bytes, segments, strings, symtab, relas)
 }
 
-// What each relocation resolves to, in order, and none for type NONE.
+// What each relocation resolves to, in order, and none for type NONE, with the names of the imports, numbered by the
+// first relocations on them; or the first relocation that breaks rule 26.
 fn resolve(
     alloc: Global,
     bytes: &[u8],
     segments: &[Segment],
     strings: &[u8],
     symtab: Option<u64>,
-    imports: &Imports,
     relas: &[Rela],
-) -> Result<List<Relocation>, OutOfMemory>
+) -> Result<Dynamic, DynError>
     requires inside { AreBounded (length bytes.now) segments.now }
     requires small { AreBounded (2 ^ 32) segments.now }
-    ensures { IfOk result (λ relocations. relocations
-        ≡ relocations_of bytes.now segments.now strings.now symtab imports.now relas.now) }
+    requires few { length relas.now + 1 < 2 ^ 32 }
+    requires known { find (λ r. not (is_known r)) relas.now ≡ None }
+    ensures ok { OnOk result
+        (find (is_unresolved bytes.now segments.now strings.now symtab) relas.now ≡ None) }
+    ensures fault { IfErr result (Tells 26 (rela_offset
+        (find (is_unresolved bytes.now segments.now strings.now symtab) relas.now))) }
+    ensures imports { IfOk result (λ dynamic. dynamic.imports
+        ≡ imports_of bytes.now segments.now strings.now symtab relas.now) }
+    ensures relocations { IfOk result (λ dynamic. dynamic.relocations
+        ≡ relocations_of bytes.now segments.now strings.now symtab
+        (imports_of bytes.now segments.now strings.now symtab relas.now) relas.now) }
 {
+    let mut imports = Imports::new(alloc);
     let mut relocations = List::new(alloc);
     for rela in relas {
         if rela.kind != R_NONE {
-            let kind = kind_of(bytes, segments, strings, symtab, imports, rela);
-            relocations.push(Relocation {
+            let kind = kind_of(alloc, bytes, segments, strings, symtab, rela, &mut imports)?;
+            let relocation = Relocation {
                 place: rela.place,
                 kind,
                 at: rela.at,
-            })?;
+            };
+            relocations.push(relocation).map_err(DynError::Memory)?;
         }
     }
-    Ok(relocations)
+    Ok(Dynamic {
+        relocations,
+        imports,
+    })
 }
 
-// The names of the imports, numbered by the first relocations on them.
-fn collect_imports(
+// What a relocation resolves to. The name of an import is added where it is new. A fault where rule 26 is broken.
+fn kind_of(
     alloc: Global,
     bytes: &[u8],
     segments: &[Segment],
     strings: &[u8],
     symtab: Option<u64>,
-    relas: &[Rela],
-) -> Result<Imports, OutOfMemory>
-    requires inside { AreBounded (length bytes.now) segments.now }
-    requires small { AreBounded (2 ^ 32) segments.now }
-    requires few { length relas.now + 1 < 2 ^ 32 }
-    ensures { IfOk result (λ imports. imports ≡ imports_of bytes.now segments.now strings.now symtab relas.now) }
-{
-    let mut imports = Imports::new(alloc);
-    for rela in relas {
-        if let Some(name) = import_of(bytes, segments, strings, symtab, rela) {
-            imports.add(alloc, name)?;
-        }
-    }
-    Ok(imports)
-}
-
-fn kind_of(
-    bytes: &[u8],
-    segments: &[Segment],
-    strings: &[u8],
-    symtab: Option<u64>,
-    imports: &Imports,
     rela: &Rela,
-) -> RelKind
+    imports: &mut Imports,
+) -> Result<RelKind, DynError>
     requires inside { AreBounded (length bytes.now) segments.now }
     requires small { AreBounded (2 ^ 32) segments.now }
-    ensures { result ≡ kind_of bytes.now segments.now strings.now symtab imports.now rela.now }
+    requires few { length imports.old + 1 < 2 ^ 32 }
+    requires known { is_known rela.now ≡ true }
+    requires some { rela.now.kind ≢ 0 }
+    ensures ok { OnOk result (is_unresolved bytes.now segments.now strings.now symtab rela.now ≡ false) }
+    ensures fault { IfErr result (Tells 26 (unless
+        (not (is_unresolved bytes.now segments.now strings.now symtab rela.now)) rela.now.at)) }
+    ensures imports { OnOk result (imports.new ≡ option_map_or (with_name imports.old)
+        (import_of bytes.now segments.now strings.now symtab rela.now) imports.old) }
+    ensures kind { IfOk result (λ kind. kind
+        ≡ kind_of bytes.now segments.now strings.now symtab imports.new rela.now) }
 {
     if rela.kind == R_RELATIVE {
-        return RelKind::Based(rela.addend);
+        return Ok(RelKind::Based(rela.addend));
     }
-    if let Some(name) = import_of(bytes, segments, strings, symtab, rela) {
-        return RelKind::Bound(imports.number_of(name).unwrap_or(0));
+    let Some(symbol) = symbol_of(bytes, segments, symtab, rela.symbol) else {
+        return Err(unresolved(rela));
+    };
+    if is_import(&symbol) {
+        let Some(name) = bound_name(strings, rela, &symbol) else {
+            return Err(unresolved(rela));
+        };
+        let number = imports.add(alloc, name).map_err(DynError::Memory)?;
+        return Ok(RelKind::Bound(number));
     }
-    match symbol_of(bytes, segments, symtab, rela.symbol) {
-        Some(symbol) if rela.kind == R_64 => RelKind::Based(symbol.value.wrapping_add(rela.addend)),
-        Some(symbol) => RelKind::Based(symbol.value),
-        None => RelKind::Based(0),
+    let Some(word) = defined_word(rela, &symbol) else {
+        return Err(unresolved(rela));
+    };
+    Ok(RelKind::Based(word))
+}
+
+fn unresolved(rela: &Rela) -> DynError
+    ensures { result ≡ Fault 26 rela.now.at }
+{
+    DynError::Fault {
+        rule: 26,
+        offset: rela.at,
     }
 }

@@ -1,4 +1,4 @@
-ghost use Rattle.std.specs.Prelude.{◌≡◌, ◌+◌, ◌<◌, ◌^◌, [], length, Some, OnOk, slice_get};
+ghost use Rattle.std.specs.Prelude.{◌≡◌, ◌+◌, ◌<◌, ◌^◌, [], length, Some, IfOk, OnOk, slice_get};
 ghost use Rattle.std.specs.List.{position};
 ghost use Rattle.std.specs.Str.{bytes_eq};
 ghost use Rattle.vw_dynamic.specs.Names.{with_name};
@@ -38,25 +38,18 @@ impl Imports {
         }
     }
 
-    // Adds a name, if it is new.
-    pub(crate) fn add(&mut self, alloc: Global, name: &[u8]) -> Result<(), OutOfMemory>
+    // Adds a name, if it is new, and answers its number.
+    pub(crate) fn add(&mut self, alloc: Global, name: &[u8]) -> Result<u32, OutOfMemory>
         requires { length self.old + 1 < 2 ^ 32 }
-        ensures { OnOk result (self.new ≡ with_name self.old name.now) }
+        ensures names { OnOk result (self.new ≡ with_name self.old name.now) }
+        ensures number { IfOk result (λ number. position (bytes_eq name.now) self.new ≡ Some number) }
     {
-        if !self.names.contains(name) {
-            self.names.insert(Vec::from_slice(alloc, name)?)?;
+        if let Some(number) = self.names.get_index_of(name) {
+            return Ok(number as u32);
         }
-        Ok(())
-    }
-
-    // The number of a name, where it is there.
-    pub(crate) fn number_of(&self, name: &[u8]) -> Option<u32>
-        ensures { result ≡ position (bytes_eq name.now) self.now }
-    {
-        match self.names.get_index_of(name) {
-            Some(number) => Some(number as u32),
-            None => None,
-        }
+        let number = self.names.len() as u32;
+        self.names.insert(Vec::from_slice(alloc, name)?)?;
+        Ok(number)
     }
 
     /// How many names there are. Takes no memory.

@@ -1,14 +1,12 @@
-ghost use Rattle.std.specs.Prelude.{◌≡◌, ◌+◌, ◌≤◌, ◌^◌, length, take, drop, option_copied, IfOk};
-ghost use Rattle.std.specs.List.{find};
-ghost use Rattle.vw_bits.specs.Symbols.{symbol_at, is_defined, is_import};
+ghost use Rattle.std.specs.Prelude.{◌≡◌, ◌+◌, ◌≤◌, ◌^◌, ◌==◌, ◌&&◌, ◌||◌, not, length, take, drop, Some, None, option_copied, if◌then◌else◌};
+ghost use Rattle.vw_bits.specs.Symbols.{symbol_at, symbol_type, is_defined, is_import};
 ghost use Rattle.vw_dynamic.specs.Bounds.{AreBounded};
-ghost use Rattle.vw_dynamic.specs.Relas.{rela_offset};
-ghost use Rattle.vw_dynamic.specs.Targets.{strings_of, symbol_offset, symbol_of, name_of, name_at, is_symbolic, resolves_to, is_unresolved, import_of};
+ghost use Rattle.vw_dynamic.specs.Targets.{strings_of, symbol_offset, symbol_of, name_of, name_at, adds_addend, defined_word};
 
 use crate::directory::{Directory, table_offset};
 use crate::fields::{u8_at, u16_at, u32_at, u64_at};
 use crate::places::file_offset;
-use crate::relas::{R_64, R_GLOB_DAT, R_JUMP_SLOT, Rela};
+use crate::relas::{R_64, Rela};
 use vw_bits::{Segment, Symbol};
 
 const SYMBOL_SIZE: u64 = 24;
@@ -106,7 +104,7 @@ fn is_defined(symbol: &Symbol) -> bool
 }
 
 // The name of 1 to 1,024 bytes at an offset of the string table, if it ends there.
-pub(crate) fn name_at(strings: &[u8], at: u32) -> Option<&[u8]>
+fn name_at(strings: &[u8], at: u32) -> Option<&[u8]>
     ensures { option_copied result ≡ name_at strings.now at }
 {
     if at as usize > strings.len() {
@@ -131,81 +129,36 @@ fn name_of(rest: &[u8]) -> Option<&[u8]>
     None
 }
 
-pub(crate) fn is_symbolic(rela: &Rela) -> bool
-    ensures { result ≡ is_symbolic rela.now }
+// Rule 26: what a relocation on a symbol that is no import adds to the load address, if it resolves.
+pub(crate) fn defined_word(rela: &Rela, symbol: &Symbol) -> Option<u64>
+    ensures { result ≡ (if not (symbol_type symbol.now == 10) && is_defined symbol.now
+        then Some (defined_word rela.now symbol.now) else None) }
 {
-    matches!(rela.kind, R_64 | R_GLOB_DAT | R_JUMP_SLOT)
-}
-
-// Rule 26: the first relocation by a symbol that does not resolve.
-pub(crate) fn first_unresolved(
-    bytes: &[u8],
-    segments: &[Segment],
-    strings: &[u8],
-    symtab: Option<u64>,
-    relas: &[Rela],
-) -> Option<u64>
-    requires inside { AreBounded (length bytes.now) segments.now }
-    requires small { AreBounded (2 ^ 32) segments.now }
-    ensures { result ≡ rela_offset (find (is_unresolved bytes.now segments.now strings.now symtab) relas.now) }
-{
-    relas
-        .iter()
-        .find(|r| is_unresolved(bytes, segments, strings, symtab, r))
-        .map(|r| r.at)
-}
-
-fn is_unresolved(
-    bytes: &[u8],
-    segments: &[Segment],
-    strings: &[u8],
-    symtab: Option<u64>,
-    rela: &Rela,
-) -> bool
-    requires inside { AreBounded (length bytes.now) segments.now }
-    requires small { AreBounded (2 ^ 32) segments.now }
-    ensures { result ≡ is_unresolved bytes.now segments.now strings.now symtab rela.now }
-{
-    if !is_symbolic(rela) {
-        return false;
-    }
-    match symbol_of(bytes, segments, symtab, rela.symbol) {
-        Some(symbol) => !resolves_to(strings, rela, &symbol),
-        None => true,
-    }
-}
-
-#[tactic(auto, unfolding(crate::specs::Targets::resolves_to))]
-fn resolves_to(strings: &[u8], rela: &Rela, symbol: &Symbol) -> bool
-    ensures { result ≡ resolves_to strings.now rela.now symbol.now }
-{
-    if symbol.info % 16 == STT_GNU_IFUNC {
-        return false;
-    }
-    if !is_import(symbol) {
-        return is_defined(symbol);
-    }
-    (rela.kind != R_64 || rela.addend == 0) && name_at(strings, symbol.name).is_some()
-}
-
-// The name of the import that a relocation is on.
-#[tactic(auto, unfolding(crate::specs::Targets::import_of))]
-pub(crate) fn import_of<'a>(
-    bytes: &[u8],
-    segments: &[Segment],
-    strings: &'a [u8],
-    symtab: Option<u64>,
-    rela: &Rela,
-) -> Option<&'a [u8]>
-    requires inside { AreBounded (length bytes.now) segments.now }
-    requires small { AreBounded (2 ^ 32) segments.now }
-    ensures { option_copied result ≡ import_of bytes.now segments.now strings.now symtab rela.now }
-{
-    if !is_symbolic(rela) {
+    if is_indirect(symbol) || !is_defined(symbol) {
         return None;
     }
-    match symbol_of(bytes, segments, symtab, rela.symbol) {
-        Some(symbol) if is_import(&symbol) => name_at(strings, symbol.name),
-        _ => None,
+    if rela.kind == R_64 {
+        Some(symbol.value.wrapping_add(rela.addend))
+    } else {
+        Some(symbol.value)
     }
+}
+
+// Rule 26: the name of the import that a relocation on one binds, if it resolves.
+pub(crate) fn bound_name<'a>(strings: &'a [u8], rela: &Rela, symbol: &Symbol) -> Option<&'a [u8]>
+    ensures { option_copied result ≡ (if not (symbol_type symbol.now == 10)
+        && (not (adds_addend rela.now) || rela.now.addend == 0)
+        then name_at strings.now symbol.now.name else None) }
+{
+    if is_indirect(symbol) || rela.kind == R_64 && rela.addend != 0 {
+        return None;
+    }
+    name_at(strings, symbol.name)
+}
+
+// Whether a symbol stands for a function that computes the address, STT_GNU_IFUNC.
+fn is_indirect(symbol: &Symbol) -> bool
+    ensures { result ≡ (symbol_type symbol.now == 10) }
+{
+    symbol.info % 16 == STT_GNU_IFUNC
 }

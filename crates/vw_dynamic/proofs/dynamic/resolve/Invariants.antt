@@ -1,8 +1,15 @@
-use Rattle.std.proofs.Common.{◌≡◌, not, map, take}
-use Rattle.std.specs.List.{filter}
-use Rattle.vw_dynamic.specs.Relas.{is_none_kind}
-use Rattle.vw_dynamic.specs.Targets.{relocation_of}
+use Rattle.std.proofs.Common.{◌≡◌, ◌≤◌, length, take, None}
+use Rattle.std.specs.List.{filter_map, find}
+use Rattle.vw_dynamic.specs.Names.{distinct}
+use Rattle.vw_dynamic.specs.Targets.{import_of, is_unresolved}
+use Rattle.vw_dynamic.proofs.ImportLemmas.{AreThere, kept}
 use Rattle.vw_dynamic.proofs.dynamic.resolve.Given as goal
 
 abbrev pub invariant-loop-rela : goal.invariant-loop-rela
-invariant-loop-rela l = l.relocations ≡ map (relocation_of l.bytes l.segments l.strings l.symtab l.imports) (filter (λ r. not (is_none_kind r)) (take l.rela-index l.relas))
+invariant-loop-rela l = record {
+  resolved : find (is_unresolved l.bytes l.segments l.strings l.symtab) (take l.rela-index l.relas) ≡ None;
+  names : l.imports ≡ distinct (filter_map (import_of l.bytes l.segments l.strings l.symtab) (take l.rela-index l.relas));
+  few : length l.imports ≤ l.rela-index;
+  there : AreThere (import_of l.bytes l.segments l.strings l.symtab) l.imports (take l.rela-index l.relas);
+  kinds : l.relocations ≡ kept l.bytes l.segments l.strings l.symtab l.imports (take l.rela-index l.relas);
+}

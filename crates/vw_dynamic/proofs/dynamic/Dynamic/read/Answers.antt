@@ -127,12 +127,6 @@ strings_of-strings-requires-clause-inside c = inside_of _ _ c.requires.headers c
 pub strings_of-strings-requires-clause-small : goal.strings_of-strings-requires-clause-small
 strings_of-strings-requires-clause-small c = small_of _ _ c.requires.headers c.requires.segments
 
-pub check_relas-requires-clause-inside : goal.check_relas-requires-clause-inside
-check_relas-requires-clause-inside c = inside_of _ _ c.requires.headers c.requires.segments
-
-pub check_relas-requires-clause-small : goal.check_relas-requires-clause-small
-check_relas-requires-clause-small c = small_of _ _ c.requires.headers c.requires.segments
-
 pub bind-requires-clause-inside : goal.bind-requires-clause-inside
 bind-requires-clause-inside c = inside_of _ _ c.requires.headers c.requires.segments
 
@@ -177,8 +171,8 @@ returns-in_err-directory-clause-fault c =
     let P : List Entry → Type 0 = λ es. Names (lowest_broken 18 (entry_rules c.args.segments.now es)) c.in_err-directory.field-0.0 in
     rw (p.1, p.2) (in_entries c.args.bytes.now c.args.segments.now header more c.requires.segments some c.in_ok-entries.entries.items c.in_ok-entries.ensures.ok c.in_ok-entries.ensures.rules _ (subst P c.as_slice.ensures.value c.in_err-directory.ensures.fault))
 
-pub returns-in_err-check_relas-clause-fault : goal.returns-in_err-check_relas-clause-fault
-returns-in_err-check_relas-clause-fault c =
+pub returns-in_err-dynamic-clause-fault : goal.returns-in_err-dynamic-clause-fault
+returns-in_err-dynamic-clause-fault c =
     let ds = c.args.dynamics.now in
     let header = get_or ds 0 blank in
     let more = take (length ds - 1) (drop 1 ds) in
@@ -192,9 +186,9 @@ returns-in_err-check_relas-clause-fault c =
     let relas : c.as_slice-2.result.now ≡ relas_of bytes segments d = c.as_slice-2.ensures.value ∙ read in
     let P : List Entry → Type 0 = λ es. AllHold (entry_rules c.args.segments.now es) in
     let hold : AllHold (entry_rules c.args.segments.now entries) = subst P c.as_slice.ensures.value c.in_ok-directory.ensures.rules in
-    let p = err_from_is_err_and c.from_residual-in_err-check_relas.result c.from_residual-in_err-check_relas.ensures.1 in
-    let Q : List (Option ℕ) → Type 0 = λ rules. Names (lowest_broken 23 rules) c.in_err-check_relas.field-0.0 in
-    rw (p.1, p.2) (in_relas c.args.bytes.now c.args.segments.now header more c.requires.segments some c.in_ok-entries.entries.items c.in_ok-entries.ensures.ok c.in_ok-entries.ensures.rules _ hold (subst Q (rules_along bytes segments entries d _ _ directory c.strings_of-strings.ensures relas) c.in_err-check_relas.ensures.fault))
+    let p = err_from_is_err_and c.from_residual-in_err-dynamic.result c.from_residual-in_err-dynamic.ensures.1 in
+    let Q : List (Option ℕ) → Type 0 = λ rules. Names (lowest_broken 23 rules) c.in_err-dynamic.field-0.0 in
+    rw (p.1, p.2) (in_relas c.args.bytes.now c.args.segments.now header more c.requires.segments some c.in_ok-entries.entries.items c.in_ok-entries.ensures.ok c.in_ok-entries.ensures.rules _ hold (subst Q (rules_along bytes segments entries d _ _ directory c.strings_of-strings.ensures relas) c.in_err-dynamic.ensures.fault))
 
 pub bind-requires-clause-few : goal.bind-requires-clause-few
 bind-requires-clause-few c =
@@ -204,10 +198,10 @@ bind-requires-clause-few c =
     let entries = c.in_ok-entries.entries.items in
     let directory : d ≡ directory_of entries = c.in_ok-directory.ensures.ok ∙ ap directory_of c.as_slice.ensures.value in
     let read : c.in_ok-relas.relas.items ≡ relas_of bytes segments d = search rules in
-    let relas : c.as_slice-3.result.now ≡ relas_of bytes segments d = c.as_slice-3.ensures.value ∙ read in
+    let relas : c.as_slice-2.result.now ≡ relas_of bytes segments d = c.as_slice-2.ensures.value ∙ read in
     let small = length-from_rules bytes c.requires.headers in
     let few = relas-few bytes segments d (inside_of bytes segments c.requires.headers c.requires.segments) in
-    let count : length c.as_slice-3.result.now ≡ length (relas_of bytes segments d) = ap length relas in
+    let count : length c.as_slice-2.result.now ≡ length (relas_of bytes segments d) = ap length relas in
     omega (arith, small, few, count)
 
 pub returns-clause-ok : goal.returns-clause-ok
@@ -226,7 +220,7 @@ returns-clause-ok c =
     let P : List Entry → Type 0 = λ es. AllHold (entry_rules c.args.segments.now es) in
     let hold : AllHold (entry_rules c.args.segments.now entries) = subst P c.as_slice.ensures.value c.in_ok-directory.ensures.rules in
     let Q : List (Option ℕ) → Type 0 = λ rules. AllHold rules in
-    none_broken c.args.bytes.now c.args.segments.now header more c.requires.segments some c.in_ok-entries.entries.items c.in_ok-entries.ensures.ok c.in_ok-entries.ensures.rules hold (subst Q (rules_along bytes segments entries d _ _ directory c.strings_of-strings.ensures relas) c.in_ok-check_relas.ensures.ok)
+    none_broken c.args.bytes.now c.args.segments.now header more c.requires.segments some c.in_ok-entries.entries.items c.in_ok-entries.ensures.ok c.in_ok-entries.ensures.rules hold (subst Q (rules_along bytes segments entries d _ _ directory c.strings_of-strings.ensures relas) c.in_ok-dynamic.ensures.ok)
 
 pub returns-clause-relocations : goal.returns-clause-relocations
 returns-clause-relocations c =
@@ -240,8 +234,8 @@ returns-clause-relocations c =
     let entries = c.in_ok-entries.entries.items in
     let directory : d ≡ directory_of entries = c.in_ok-directory.ensures.ok ∙ ap directory_of c.as_slice.ensures.value in
     let read : c.in_ok-relas.relas.items ≡ relas_of bytes segments d = search rules in
-    let relas : c.as_slice-3.result.now ≡ relas_of bytes segments d = c.as_slice-3.ensures.value ∙ read in
-    let bound : c.in_ok-dynamic.dynamic.relocations ≡ relocations_of bytes segments c.strings_of-strings.result.now d.symtab (imports_of bytes segments c.strings_of-strings.result.now d.symtab c.as_slice-3.result.now) c.as_slice-3.result.now = search rules in
+    let relas : c.as_slice-2.result.now ≡ relas_of bytes segments d = c.as_slice-2.ensures.value ∙ read in
+    let bound : c.in_ok-dynamic.dynamic.relocations ≡ relocations_of bytes segments c.strings_of-strings.result.now d.symtab (imports_of bytes segments c.strings_of-strings.result.now d.symtab c.as_slice-2.result.now) c.as_slice-2.result.now = search rules in
     bound ∙ relocations_along bytes segments entries d _ _ directory c.strings_of-strings.ensures relas ∙ sym (relocations_are c.args.bytes.now c.args.segments.now header more c.requires.segments some c.in_ok-entries.entries.items c.in_ok-entries.ensures.ok c.in_ok-entries.ensures.rules)
 
 pub returns-clause-imports : goal.returns-clause-imports
@@ -256,6 +250,6 @@ returns-clause-imports c =
     let entries = c.in_ok-entries.entries.items in
     let directory : d ≡ directory_of entries = c.in_ok-directory.ensures.ok ∙ ap directory_of c.as_slice.ensures.value in
     let read : c.in_ok-relas.relas.items ≡ relas_of bytes segments d = search rules in
-    let relas : c.as_slice-3.result.now ≡ relas_of bytes segments d = c.as_slice-3.ensures.value ∙ read in
-    let bound : c.in_ok-dynamic.dynamic.imports ≡ imports_of bytes segments c.strings_of-strings.result.now d.symtab c.as_slice-3.result.now = search rules in
+    let relas : c.as_slice-2.result.now ≡ relas_of bytes segments d = c.as_slice-2.ensures.value ∙ read in
+    let bound : c.in_ok-dynamic.dynamic.imports ≡ imports_of bytes segments c.strings_of-strings.result.now d.symtab c.as_slice-2.result.now = search rules in
     bound ∙ imports_along bytes segments entries d _ _ directory c.strings_of-strings.ensures relas ∙ sym (imports_are c.args.bytes.now c.args.segments.now header more c.requires.segments some c.in_ok-entries.entries.items c.in_ok-entries.ensures.ok c.in_ok-entries.ensures.rules)
