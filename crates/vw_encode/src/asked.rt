@@ -140,28 +140,11 @@ fn count_in(count: Count) -> u8
     }
 }
 
-/// The number of a register (SDM volume 2, table 3-1).
+// The number of a register (SDM volume 2, table 3-1).
 pub(crate) fn register_number(reg: Reg) -> u8
     ensures { result ≡ number reg }
 {
-    match reg {
-        Reg::Rax => 0,
-        Reg::Rcx => 1,
-        Reg::Rdx => 2,
-        Reg::Rbx => 3,
-        Reg::Rsp => 4,
-        Reg::Rbp => 5,
-        Reg::Rsi => 6,
-        Reg::Rdi => 7,
-        Reg::R8 => 8,
-        Reg::R9 => 9,
-        Reg::R10 => 10,
-        Reg::R11 => 11,
-        Reg::R12 => 12,
-        Reg::R13 => 13,
-        Reg::R14 => 14,
-        Reg::R15 => 15,
-    }
+    reg as u8
 }
 
 // The number by which a field names the register, 0 for memory.

@@ -233,176 +233,53 @@ fn kind_of(insn: &Insn) -> u8
     }
 }
 
+// The numbers of operations, conditions and rows of XMM instructions are their places in the enumerations.
+
 fn alu_number(op: AluOp) -> u8
     ensures is { result ≡ alu_number op }
     ensures bound { result < 8 }
 {
-    match op {
-        AluOp::Add => 0,
-        AluOp::Or => 1,
-        AluOp::Adc => 2,
-        AluOp::Sbb => 3,
-        AluOp::And => 4,
-        AluOp::Sub => 5,
-        AluOp::Xor => 6,
-        AluOp::Cmp => 7,
-    }
+    op as u8
 }
 
 fn cond_number(cond: Cond) -> u8
     ensures is { result ≡ cond_number cond }
     ensures bound { result < 16 }
 {
-    match cond {
-        Cond::O => 0,
-        Cond::No => 1,
-        Cond::B => 2,
-        Cond::Ae => 3,
-        Cond::E => 4,
-        Cond::Ne => 5,
-        Cond::Be => 6,
-        Cond::A => 7,
-        Cond::S => 8,
-        Cond::Ns => 9,
-        Cond::P => 10,
-        Cond::Np => 11,
-        Cond::L => 12,
-        Cond::Ge => 13,
-        Cond::Le => 14,
-        Cond::G => 15,
-    }
+    cond as u8
 }
 
 fn shift_number(op: ShiftOp) -> u8
     ensures is { result ≡ shift_number op }
     ensures bound { result < 5 }
 {
-    match op {
-        ShiftOp::Rol => 0,
-        ShiftOp::Ror => 1,
-        ShiftOp::Shl => 2,
-        ShiftOp::Shr => 3,
-        ShiftOp::Sar => 4,
-    }
+    op as u8
 }
 
 fn unary_number(op: UnaryOp) -> u8
     ensures is { result ≡ unary_number op }
     ensures bound { result < 4 }
 {
-    match op {
-        UnaryOp::Not => 0,
-        UnaryOp::Neg => 1,
-        UnaryOp::Inc => 2,
-        UnaryOp::Dec => 3,
-    }
+    op as u8
 }
 
 fn mul_div_number(op: MulDivOp) -> u8
     ensures is { result ≡ mul_div_number op }
     ensures bound { result < 4 }
 {
-    match op {
-        MulDivOp::Mul => 0,
-        MulDivOp::Imul => 1,
-        MulDivOp::Div => 2,
-        MulDivOp::Idiv => 3,
-    }
+    op as u8
 }
 
 fn bits_number(op: BitsOp) -> u8
     ensures is { result ≡ bits_number op }
     ensures bound { result < 5 }
 {
-    match op {
-        BitsOp::Bsf => 0,
-        BitsOp::Bsr => 1,
-        BitsOp::Popcnt => 2,
-        BitsOp::Tzcnt => 3,
-        BitsOp::Lzcnt => 4,
-    }
+    op as u8
 }
 
 fn xmm_row_number(row: XmmRow) -> u8
     ensures is { result ≡ xmm_row_number row }
     ensures bound { result < 76 }
 {
-    match row {
-        XmmRow::MovupsLoad => 0,
-        XmmRow::MovupdLoad => 1,
-        XmmRow::MovssLoad => 2,
-        XmmRow::MovsdLoad => 3,
-        XmmRow::MovupsStore => 4,
-        XmmRow::MovupdStore => 5,
-        XmmRow::MovssStore => 6,
-        XmmRow::MovsdStore => 7,
-        XmmRow::MovapsLoad => 8,
-        XmmRow::MovapdLoad => 9,
-        XmmRow::MovapsStore => 10,
-        XmmRow::MovapdStore => 11,
-        XmmRow::MovdqaLoad => 12,
-        XmmRow::MovdquLoad => 13,
-        XmmRow::MovdqaStore => 14,
-        XmmRow::MovdquStore => 15,
-        XmmRow::MovdLoad => 16,
-        XmmRow::MovdStore => 17,
-        XmmRow::MovqLoad => 18,
-        XmmRow::MovqStore => 19,
-        XmmRow::Sqrtps => 20,
-        XmmRow::Sqrtpd => 21,
-        XmmRow::Sqrtss => 22,
-        XmmRow::Sqrtsd => 23,
-        XmmRow::Addps => 24,
-        XmmRow::Addpd => 25,
-        XmmRow::Addss => 26,
-        XmmRow::Addsd => 27,
-        XmmRow::Mulps => 28,
-        XmmRow::Mulpd => 29,
-        XmmRow::Mulss => 30,
-        XmmRow::Mulsd => 31,
-        XmmRow::Subps => 32,
-        XmmRow::Subpd => 33,
-        XmmRow::Subss => 34,
-        XmmRow::Subsd => 35,
-        XmmRow::Minps => 36,
-        XmmRow::Minpd => 37,
-        XmmRow::Minss => 38,
-        XmmRow::Minsd => 39,
-        XmmRow::Divps => 40,
-        XmmRow::Divpd => 41,
-        XmmRow::Divss => 42,
-        XmmRow::Divsd => 43,
-        XmmRow::Maxps => 44,
-        XmmRow::Maxpd => 45,
-        XmmRow::Maxss => 46,
-        XmmRow::Maxsd => 47,
-        XmmRow::Andps => 48,
-        XmmRow::Andpd => 49,
-        XmmRow::Andnps => 50,
-        XmmRow::Andnpd => 51,
-        XmmRow::Orps => 52,
-        XmmRow::Orpd => 53,
-        XmmRow::Xorps => 54,
-        XmmRow::Xorpd => 55,
-        XmmRow::Cvtps2pd => 56,
-        XmmRow::Cvtpd2ps => 57,
-        XmmRow::Cvtss2sd => 58,
-        XmmRow::Cvtsd2ss => 59,
-        XmmRow::Cvtdq2ps => 60,
-        XmmRow::Cvtps2dq => 61,
-        XmmRow::Cvttps2dq => 62,
-        XmmRow::Cvtsi2ss => 63,
-        XmmRow::Cvtsi2sd => 64,
-        XmmRow::Cvttss2si => 65,
-        XmmRow::Cvttsd2si => 66,
-        XmmRow::Cvtss2si => 67,
-        XmmRow::Cvtsd2si => 68,
-        XmmRow::Ucomiss => 69,
-        XmmRow::Ucomisd => 70,
-        XmmRow::Comiss => 71,
-        XmmRow::Comisd => 72,
-        XmmRow::Pxor => 73,
-        XmmRow::Roundss => 74,
-        XmmRow::Roundsd => 75,
-    }
+    row as u8
 }
