@@ -2,7 +2,7 @@
 //! byte. It prints how many instructions there are, and how many of them are the same as the one before, so
 //! that none is decoded for nothing. A word says how often all this is done: a clock beside it sees how long
 //! the decoder takes alone. A word behind it, make, copy, join or compare, has this done with abstract states
-//! in place of the decoding, a hundred thousand times a round.
+//! in place of the decoding, a hundred thousand times a round; size tells how many bytes one takes.
 #![tactic(auto)]
 
 mod states;

@@ -4,7 +4,7 @@ ghost use Rattle.std.specs.Prelude.{◌≡◌};
 
 use std::alloc::Global;
 use vw_bits::OutOfMemory;
-use vw_domain::{Register, State, entry_state};
+use vw_domain::{Parts, Register, State, entry_state};
 use vw_lattice::Lattice;
 use vw_stack::Offset;
 use vw_values::{Bounds, Value};
@@ -23,6 +23,8 @@ pub enum Work {
     Join,
     /// A copy is compared with the state that it is a copy of.
     Compare,
+    /// Nothing; its size is told.
+    Size,
 }
 
 /// The work that a word names. None: it names none.
@@ -32,12 +34,14 @@ pub fn work_of(word: &str) -> Option<Work> {
         "copy" => Some(Work::Copy),
         "join" => Some(Work::Join),
         "compare" => Some(Work::Compare),
+        "size" => Some(Work::Size),
         _ => None,
     }
 }
 
 /// Does a round of the work, and answers of how many states something was found: of those that are there, or at a join
-/// of those that it changed, or at a comparison of those that are below the other.
+/// of those that it changed, or at a comparison of those that are below the other. The size is that of one in bytes,
+/// without its slots, its classes and its ranges of written bytes.
 pub fn round(alloc: Global, work: Work) -> Result<u64, OutOfMemory> {
     let entry = entry_state(alloc)?;
     match work {
@@ -45,6 +49,7 @@ pub fn round(alloc: Global, work: Work) -> Result<u64, OutOfMemory> {
         Work::Copy => Ok(copies(alloc, &entry)?.len() as u64),
         Work::Join => joined(alloc, &entry),
         Work::Compare => Ok(compared(copies(alloc, &entry)?.as_slice(), &entry)),
+        Work::Size => Ok(size_of::<Parts>() as u64),
     }
 }
 

@@ -1,20 +1,12 @@
 -- What stands at a point decides what fails there.
-use Rattle.std.proofs.Common.{◌≡◌, ◌∙◌, ℕ, ◌+◌, ◌≤◌, Option, Some, sym, ap, subst, arith}
+use Rattle.std.proofs.Common.{ℕ, ◌+◌, ◌≤◌, Option, Some, subst, arith}
 use Rattle.std.specs.Prelude.{IfOk, Result, Ok, Err}
-use Rattle.vw_image.specs.Image.{Contents}
 use Rattle.vw_insn.specs.declared.instruction.Insn.{Insn}
-use Rattle.vw_state.specs.declared.site.Site.{Site}
 use Rattle.vw_domain.specs.declared.parts.Parts.{Parts}
-use Rattle.vw_state.specs.Code.{code_at, NothingAt, StandsAlone}
-use Rattle.vw_state.specs.Context.{Context, code_of, IsSite}
+use Rattle.vw_state.specs.Code.{NothingAt, StandsAlone}
+use Rattle.vw_state.specs.Context.{Context, code_of}
 use Rattle.vw_checks.specs.Checks.{InsnFails, Fails, lacks_code, at_insn, IsLowestOf, LowestFailing}
 use Rattle.vw_checks.proofs.LowestLemmas.{lowest_as}
-
--- the code of a site of a function
-pub site_code : (f : Context) (site : Site) → IsSite f site → code_at site.image.now site.entry site.size ≡ code_of f
-site_code f site is =
-    ap (λ (image : Contents). code_at image site.entry site.size) (sym is.image)
-    ∙ (ap (λ (entry : ℕ). code_at f.image entry site.size) (sym is.entry) ∙ ap (λ (size : ℕ). code_at f.image f.entry size) (sym is.size))
 
 module _ (f : Context) (at : ℕ) (state : Parts) where
   -- nothing decodes at the point

@@ -1,13 +1,10 @@
 -- Where no check fails at a state, none fails at a lower one.
 use Rattle.std.proofs.Common.{◌≡◌, ◌⊎◌, inl, inr, ℕ, ◌+◌, ◌≤◌, List, [], ◌∷◌, ◌++◌, Bool, true, false, Some, None, refl, sym, subst, arith}
 use Rattle.std.specs.List.{AllByRecursion}
-use Rattle.std.specs.Prelude.{pos, ◌-ℤ◌, Option, is_some}
+use Rattle.std.specs.Prelude.{pos, ◌-ℤ◌, Option}
 use Rattle.vw_rows.specs.Numbers.{IsBytes}
 use Rattle.vw_insn.specs.declared.instruction.Insn.{Insn}
 use Rattle.vw_names.specs.declared.spot.Spot.TheVariants.{Reg as RegisterOf}
-use Rattle.vw_values.specs.declared.value.Value.{Value}
-use Rattle.vw_values.specs.declared.value.Value.TheVariants as value
-use Rattle.vw_values.specs.Values.{value_below}
 use Rattle.vw_stmt.specs.Lifted.{IsLifted}
 use Rattle.vw_stmt.specs.declared.statement.Flow.{Flow}
 use Rattle.vw_stmt.specs.declared.statement.Flow.TheVariants as flow
@@ -21,7 +18,7 @@ use Rattle.vw_stack.specs.declared.offset.Offset.TheVariants as offset
 use Rattle.vw_domain.specs.declared.parts.Parts.{Parts}
 use Rattle.vw_domain.specs.Abstract.{Abstract, abstract_of, IsBelow}
 use Rattle.vw_domain.specs.Addresses.{Address, Frame, address_of, value_of}
-use Rattle.vw_domain.specs.Checks.{HasHeapBase, JumpsInside}
+use Rattle.vw_domain.specs.Checks.{HasHeapBase}
 use Rattle.vw_domain.specs.Sites.{Site}
 use Rattle.vw_domain.specs.EquationLaws.{NoFlow, StatementsRise, StatementsKeepForms, ChecksRise, TransferChecksRise, ValueChecksRise}
 use Rattle.vw_domain.specs.FormLaws.{StatesHaveForms, HasDisplacement}
@@ -33,9 +30,9 @@ use Rattle.vw_domain.specs.Statements.{apply, applies}
 use Rattle.vw_state.specs.Code.{BeginsAt}
 use Rattle.vw_state.specs.Context.{Context, code_of, site_at}
 use Rattle.vw_state.specs.Laws.{HasSites}
-use Rattle.vw_state.specs.Post.{jump_table, entry_target}
-use Rattle.vw_state.specs.Checks.{StaysInside, FailsGraph, Leaves}
+use Rattle.vw_state.specs.Checks.{FailsGraph}
 use Rattle.vw_state.specs.Checks.{lacks_code as no_code, leaves as goes_out}
+use Rattle.vw_state.proofs.RoundChecks.{greater_leaves}
 use Rattle.vw_checks.specs.Accesses.{ReadFails, WriteFails, TouchFails, PushFailsAt}
 use Rattle.vw_checks.specs.Checks.{called_target, MayEnter, TransferFails, StmtFails, StmtsFail, FlowFails, FlowPasses, InsnFails, Fails, lacks_code, at_insn, Passes}
 use Rattle.vw_checks.proofs.Conditions.{None as NoneFails, flow_passes, flow_none, stmt_passes, stmt_none}
@@ -46,60 +43,21 @@ enter_rises s t (Some target.Probe) base may = tt
 enter_rises s t (Some (target.Function number)) base may = base may
 enter_rises s t (Some (target.Stub stub)) base may = base may
 
--- ---- jumps through registers
-
--- entry i of the table at `a` leads to a point of the function
-abbrev leads_inside : Context → ℕ → ℕ → Bool
-leads_inside f a i = is_some (entry_target f (record { base = a; count = 0 }) i)
-
-some_there : {A : Type 0} (o : Option A) → (o ≡ None → ⊥) → is_some o ≡ true
-some_there None there = absurd (there refl)
-some_there (Some x) there = refl
-
-none_there : {A : Type 0} (o : Option A) → is_some o ≡ true → o ≡ None → ⊥
-none_there None some e = let both : false ≡ true = some in absurd cc
-none_there (Some x) some e = absurd cc
-
--- that a jump stays inside, as the laws of states say it
-jumps_inside : (f : Context) (v : Value) → StaysInside f (jump_table v) → JumpsInside (λ a i. leads_inside f a i ≡ true) v
-jumps_inside f (value.JumpDest a k) stays = λ i less. some_there (entry_target f (record { base = a; count = k }) i) (stays i less)
-jumps_inside f v stays = absurd stays
-
-stays_inside : (f : Context) (v : Value) → JumpsInside (λ a i. leads_inside f a i ≡ true) v → StaysInside f (jump_table v)
-stays_inside f (value.JumpDest a k) inside = λ i less. none_there (entry_target f (record { base = a; count = k }) i) (inside i less)
-stays_inside f v inside = absurd inside
-
-stays_rises : ValueChecksRise → (f : Context) (v w : Value) → value_below v w → StaysInside f (jump_table w) → StaysInside f (jump_table v)
-stays_rises values f v w below stays = stays_inside f v ((values (leads_inside f) v w below).1 (jumps_inside f w stays))
-
--- what may leave the function with a state may with a greater one
-leaves_rises : ValueChecksRise → (f : Context) (next : ℕ) (s t : Abstract) → IsBelow s t → (fl : Flow) → Leaves f next s fl → Leaves f next t fl
-leaves_rises values f next s t below flow.Next h = h
-leaves_rises values f next s t below (flow.Jump rel) h = h
-leaves_rises values f next s t below (flow.Branch cond rel) h = h
-leaves_rises values f next s t below (flow.JumpReg src) h =
-    let r = index_of src in
-    λ stays. h (stays_rises values f (value_of s r) (value_of t r) (below.values (RegisterOf r)) stays)
-leaves_rises values f next s t below (flow.Call rel) h = h
-leaves_rises values f next s t below (flow.CallReg src) h = h
-leaves_rises values f next s t below flow.Ret h = h
-leaves_rises values f next s t below flow.Stop h = h
-
 -- the laws of the equations
 module _ (rise : StatementsRise) (forms : StatementsKeepForms) (checks : ChecksRise) (transfers : TransferChecksRise) (values : ValueChecksRise) (f : Context) (sites : HasSites f) (next : ℕ) where
   flow_rises : (s t : Abstract) → IsBelow s t → (fl : Flow) → FlowPasses f next t fl → FlowPasses f next s fl
   flow_rises s t below flow.Next passes = tt
   flow_rises s t below (flow.Jump rel) passes = passes
   flow_rises s t below (flow.Branch cond rel) passes = passes
-  flow_rises s t below (flow.JumpReg src) passes = λ leaves. passes (leaves_rises values f next s t below (flow.JumpReg src) leaves)
+  flow_rises s t below (flow.JumpReg src) passes = λ leaves. passes (greater_leaves f next s t (flow.JumpReg src) below leaves)
   flow_rises s t below (flow.Call rel) passes =
       let law = transfers (site_at f next) s t below in
       (law.1 passes.0, enter_rises s t (called_target f next rel) law.2 passes.1)
   flow_rises s t below (flow.CallReg src) passes =
       let law = transfers (site_at f next) s t below in
       let r = index_of src in
-      let function = (values (λ a i. false) (value_of s r) (value_of t r) (below.values (RegisterOf r))).0 in
-      (law.1 passes.0, (function passes.1.0, law.2 passes.1.1))
+      let function = values (value_of s r) (value_of t r) (below.values (RegisterOf r)) passes.1.0 in
+      (law.1 passes.0, (function, law.2 passes.1.1))
   flow_rises s t below flow.Ret passes = (transfers (site_at f next) s t below).0 passes
   flow_rises s t below flow.Stop passes = tt
 
@@ -188,13 +146,13 @@ code_rises f at low high _ small (lacks_code lacks) = lacks_code lacks
 code_rises f at low high _ small (at_insn i len number begins h) = let more = stmts_numbers f (at + len) (abstract_of low) (lifted i) number h in absurd (omega (arith, small, more))
 
 -- a check below 3 that fails at a statement with a state is check 2, and fails with a greater state too
-module _ (rise : StatementsRise) (forms : StatementsKeepForms) (values : ValueChecksRise) where
+module _ (rise : StatementsRise) (forms : StatementsKeepForms) where
   abbrev IsFirst : ℕ → (ℕ → Type 0) → Type 0
   IsFirst number Fails = (3 ≤ number) ⊎ ((number ≡ 2) × Fails 2)
 
   module _ (f : Context) (sites : HasSites f) (next : ℕ) where
     first_flow : (s t : Abstract) → IsBelow s t → (fl : Flow) (number : ℕ) → FlowFails f next s fl number → IsFirst number (FlowFails f next t fl)
-    first_flow s t below fl number (inl h) = inr (h.0, inl (refl, leaves_rises values f next s t below fl h.1))
+    first_flow s t below fl number (inl h) = inr (h.0, inl (refl, greater_leaves f next s t fl below h.1))
     first_flow s t below fl number (inr h) = inl (transfer_numbers f next s fl number h)
 
     first_stmt : (s t : Abstract) → IsBelow s t → (x : Stmt) (number : ℕ) → StmtFails f next s x number → IsFirst number (StmtFails f next t x)
@@ -214,12 +172,12 @@ first_insn f at high i len number begins small (inl more) = absurd (omega (arith
 first_insn f at high i len number begins small (inr two) = subst (λ (n : ℕ). Fails f at high n) (sym two.0) (at_insn i len 2 begins two.1)
 
 -- checks 1 and 2 that fail at a state fail at a greater one
-module _ (rise : StatementsRise) (forms : StatementsKeepForms) (values : ValueChecksRise) (have : StatesHaveForms) (order : OrderIsThatOfForms) (spelled : StatementsAreLifted) where
+module _ (rise : StatementsRise) (forms : StatementsKeepForms) (have : StatesHaveForms) (order : OrderIsThatOfForms) (spelled : StatementsAreLifted) where
   pub first_rise : (f : Context) (at : ℕ) (low high : Parts) → IsBytes (code_of f) → HasSites f → IsValidState f.bounds low → IsValidState f.bounds high → state_below low high → (number : ℕ) → number ≤ 2 → Fails f at low number → Fails f at high number
   first_rise f at low high bytes sites is_low is_high below _ small (lacks_code lacks) = lacks_code lacks
   first_rise f at low high bytes sites is_low is_high below _ small (at_insn i len number begins h) =
       first_insn f at high i len number begins small
-      (first_stmts rise forms values f sites (at + len) (abstract_of low) (abstract_of high) (have f.bounds low is_low).form (have f.bounds high is_high).form ((order low high is_low.state is_high.state).0 below)
+      (first_stmts rise forms f sites (at + len) (abstract_of low) (abstract_of high) (have f.bounds low is_low).form (have f.bounds high is_high).form ((order low high is_low.state is_high.state).0 below)
       (lifted i) (with_flow (steps i) (flow_of i) (spelled (code_of f) at i len bytes begins).1) number h)
 
 -- what fails at the last flow of some statements

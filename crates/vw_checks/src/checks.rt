@@ -1,13 +1,12 @@
 ghost use Rattle.std.specs.Prelude.{◌≡◌, ◌≤◌, length, true, Contains, IfOk};
 ghost use Rattle.std.specs.List.{AllByRecursion};
-ghost use Rattle.vw_insn.specs.Listed.{IsListed};
 ghost use Rattle.vw_stmt.specs.Lifted.{IsLifted};
 ghost use Rattle.vw_layout.specs.declared.functions.Function.{Function};
 ghost use Rattle.vw_layout.specs.Layout.{IsWhole};
 ghost use Rattle.vw_domain.specs.Abstract.{abstract_of};
-ghost use Rattle.vw_state.specs.Code.{code_at};
+ghost use Rattle.vw_state.specs.Code.{code_at, IsPointInsn};
 ghost use Rattle.vw_state.specs.Context.{Context, context_of, IsSite};
-ghost use Rattle.vw_checks.specs.Checks.{IsLowestOf, StmtsFail, InsnFails, LowestFailing};
+ghost use Rattle.vw_checks.specs.Checks.{IsLowestOf, StmtsFail, LowestFailing};
 ghost use Rattle.vw_checks.specs.Functions.{IsFunctionOf};
 ghost use Rattle.vw_checks.specs.Harmless.{never_fail_behind};
 
@@ -17,11 +16,10 @@ use crate::statements::failing_stmt;
 use std::alloc::Global;
 use vw_bits::OutOfMemory;
 use vw_domain::State;
-use vw_insn::Insn;
 use vw_lattice::Lattice;
 use vw_layout::Module;
 use vw_lift::lift;
-use vw_state::{Site, after_stmt, code_is_short, instruction_at};
+use vw_state::{PointInsn, Site, after_stmt, code_is_short, instruction_at};
 use vw_stmt::Stmt;
 
 /// The lowest number of the checks that fail at a point of a function with a state; `None` exactly where no
@@ -70,6 +68,25 @@ pub fn check_of_code(
     failing(alloc, loaded, site, code, at, state)
 }
 
+/// The same, where the instruction at the point is at hand.
+pub fn check_of_insn(
+    loaded: &Module,
+    site: &Site,
+    code: &[u8],
+    point: &PointInsn,
+    state: &State,
+) -> Result<Option<u8>, OutOfMemory>
+    requires whole { IsWhole loaded.now }
+    requires few { length site.now.tables.now ≤ 64 }
+    requires code { code.now ≡ code_at site.now.image.now site.now.entry site.now.size }
+    requires point { IsPointInsn code.now point.now }
+    ensures { (f : Function) → Contains loaded.now.functions f
+        → IsSite (context_of loaded.now f) site.now
+        → IfOk result (LowestFailing (context_of loaded.now f) point.now.at state.now) }
+{
+    failing_insn(loaded, site, code, point, state)
+}
+
 // The lowest number of the checks that fail at a point.
 fn failing(
     alloc: Global,
@@ -85,31 +102,38 @@ fn failing(
     ensures { (f : Context) → IsFunctionOf loaded.now f → IsSite f site.now
         → IfOk result (LowestFailing f at state.now) }
 {
-    code_is_short();
-    let _size = site.size;
     let Some((insn, len)) = instruction_at(code, at) else {
         return Ok(Some(1));
     };
-    failing_insn(alloc, loaded, site, &insn, at + len, state)
+    let stmts = lift(alloc, &insn, 0, 0);
+    let point = PointInsn {
+        at,
+        len,
+        insn: &insn,
+        stmts: stmts.as_slice(),
+    };
+    failing_insn(loaded, site, code, &point, state)
 }
 
-// The lowest number of the checks that fail at an instruction with `next` behind it.
+// The lowest number of the checks that fail at a point with this instruction.
 fn failing_insn(
-    alloc: Global,
     loaded: &Module,
     site: &Site,
-    insn: &Insn,
-    next: u32,
+    code: &[u8],
+    point: &PointInsn,
     state: &State,
 ) -> Result<Option<u8>, OutOfMemory>
     requires whole { IsWhole loaded.now }
-    requires listed { IsListed insn.now }
     requires few { length site.now.tables.now ≤ 64 }
+    requires code { code.now ≡ code_at site.now.image.now site.now.entry site.now.size }
+    requires point { IsPointInsn code.now point.now }
     ensures { (f : Context) → IsFunctionOf loaded.now f → IsSite f site.now
-        → IfOk result (IsLowestOf (InsnFails f next state.now insn.now)) }
+        → IfOk result (LowestFailing f point.now.at state.now) }
 {
-    let stmts = lift(alloc, insn, 0, 0);
-    failing_stmts(loaded, site, stmts.as_slice(), next, state)
+    code_is_short();
+    let _code = code;
+    let _size = site.size;
+    failing_stmts(loaded, site, point.stmts, point.at + point.len, state)
 }
 
 // The lowest number of the checks that fail at some statements, the first of them with this state before it. The state is

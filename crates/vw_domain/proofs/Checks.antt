@@ -10,11 +10,10 @@ use Rattle.vw_values.specs.declared.value.Value.{Value}
 use Rattle.vw_values.specs.declared.value.Value.TheVariants.{HeapBase, Entry as EntryOf, TableFn}
 use Rattle.vw_domain.specs.Abstract.{Abstract}
 use Rattle.vw_domain.specs.Sites.{Site}
-use Rattle.vw_domain.proofs.Orders.{Under, same, to_any, Lower, known_is}
+use Rattle.vw_domain.proofs.Orders.{Under, same, Lower, known_is}
 use Rattle.vw_domain.specs.Addresses.{Address, Frame, Heap, Globals, Image, Range, Entry, Unknown}
-use Rattle.vw_domain.specs.Checks.{BeginsInStack, ReadsInside, ReadsKnown, MayRead, MayWrite, MayPushAt, MayPush, HasHeapBase, MayReturn, IsTableFn, JumpsInside}
+use Rattle.vw_domain.specs.Checks.{BeginsInStack, ReadsInside, ReadsKnown, MayRead, MayWrite, MayPushAt, MayPush, HasHeapBase, MayReturn, IsTableFn}
 use Rattle.vw_domain.proofs.AddressOrder.{Closer, alike, unknown, closer_heap, closer_globals, closer_range, tagged}
-use Rattle.vw_domain.proofs.Orders.{jump_dest}
 
 entry_is : (v : Value) (r : ℕ) → Under v (EntryOf r) → v ≡ EntryOf r
 entry_is v r same = refl
@@ -90,9 +89,3 @@ module _ (site : Site) (s t : Abstract) (below : Lower s t) where
 pub function_passes : (v v' : Value) → Under v v' → IsTableFn v' → IsTableFn v
 function_passes v (TableFn t g) same m = tt
 function_passes v v' u m = absurd m
-
-pub jumps_pass : (Inside : ℕ → ℕ → Type 0) (v v' : Value) → Under v v' → JumpsInside Inside v' → JumpsInside Inside v
-jumps_pass Inside v v' same m = m
-jumps_pass Inside v v' to_any m = absurd m
-jumps_pass Inside v v' (jump_dest h) m = λ i l. m i (omega arith)
-jumps_pass Inside v v' h m = absurd m

@@ -28,7 +28,7 @@ use Rattle.vw_domain.proofs.Calls.{call_mono, call_stands}
 use Rattle.vw_domain.proofs.Probes.{probe_mono}
 use Rattle.vw_domain.proofs.Valid.{call_valid}
 use Rattle.vw_domain.proofs.Permits.{accesses_permitted as permitted, any_pick}
-use Rattle.vw_domain.proofs.Checks.{return_passes, push_passes, base_passes, function_passes, jumps_pass}
+use Rattle.vw_domain.proofs.Checks.{return_passes, push_passes, base_passes, function_passes}
 use Rattle.vw_names.specs.declared.spot.Spot.TheVariants.{Reg}
 use Rattle.vw_stack.specs.declared.offset.Offset.{Offset}
 use Rattle.vw_values.specs.declared.value.Value.{Value}
@@ -155,4 +155,4 @@ pub transfer_checks_rise : EquationLaws.TransferChecksRise
 transfer_checks_rise site s t below = let lower = lower_of s t below in ((λ h. return_passes site s t lower h), (λ h. push_passes site s t lower h), (λ h. base_passes site s t lower h))
 
 pub value_checks_rise : EquationLaws.ValueChecksRise
-value_checks_rise Inside v w below = let u = under_of v w below in ((λ h. function_passes v w u h), (λ h. jumps_pass (λ a i. Inside a i ≡ true) v w u h))
+value_checks_rise v w below h = function_passes v w (under_of v w below) h

@@ -1,4 +1,5 @@
 pub mod RowLemmas
+pub mod CellLemmas
 pub mod SlotLemmas
 pub mod Updates
 pub mod StateJoins
@@ -63,3 +64,4 @@ pub mod JoinedClasses
 pub mod CallLemmas
 pub mod CallForms
 pub mod CallStates
+pub mod PlainPlaces

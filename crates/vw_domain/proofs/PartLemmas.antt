@@ -1,5 +1,5 @@
 -- The parts of a state as lists, which are built item by item.
-use Rattle.std.proofs.Common.{◌≡◌, ◌⊎◌, ℕ, zero, suc, ◌+◌, ◌^◌, ◌<◌, ◌≤◌, List, [], ◌∷◌, ◌++◌, length, get_or, take, map, refl, sym, ap, subst, ◌∙◌, arith, inl, inr, Some, None, Bool, true, false, is_some}
+use Rattle.std.proofs.Common.{◌≡◌, ◌⊎◌, ℕ, zero, suc, ◌+◌, ◌^◌, ◌<◌, ◌≤◌, List, [], ◌∷◌, ◌++◌, length, get_or, take, map, refl, sym, ap, subst, ◌∙◌, arith, inl, inr, Some, None, Bool, true, false, is_some, below_more}
 use Rattle.std.proofs.lemmas.Bool.{cases_lt, cases_eq}
 use Rattle.std.proofs.lemmas.Int.{ints}
 use Rattle.std.proofs.lemmas.List.{get_or_default, get_or_append_left, get_or_push, length_push, take_more, map-append}
@@ -14,7 +14,10 @@ use Rattle.vw_names.specs.Division.{Same}
 use Rattle.vw_names.specs.Groups.{Has, first_place, IsGroup, AreGroups}
 use Rattle.vw_names.specs.Spot.{number, slot_number}
 use Rattle.vw_values.specs.declared.value.Value.{Value}
+use Rattle.vw_values.specs.declared.value.Value.TheVariants.{Any}
 use Rattle.vw_domain.specs.declared.parts.Parts.{Parts}
+use Rattle.vw_domain.specs.declared.registers.Register.{Register}
+use Rattle.vw_domain.specs.Registers.{register_at}
 use Rattle.vw_domain.specs.State.{AreSlots, IsInFrame, IsState, IsThere, key_of, wide_key, narrow_key}
 use Rattle.vw_domain.specs.Abstract.{slot_key}
 use Rattle.vw_domain.specs.declared.state_parts.Slot.{Slot as Part}
@@ -30,6 +33,14 @@ all_push P xs x all here = λ k d within.
       | inl front ↦ subst P (sym (get_or_append_left xs (x ∷ []) d k front)) (all k d front)
       | inr back ↦ subst P (sym (get_or_push xs x d k (omega arith))) here
     ]
+
+pub values_push : (n : ℕ) (row : List Register) (values : List Value) (v : Value) → AreValues n row values → v ≡ (register_at row n).value → AreValues (n + 1) row (values ++ v ∷ [])
+values_push n row values v so_far is = record {
+  length = length_push values v ∙ ap (λ (m : ℕ). m + 1) so_far.length;
+  each = below_more _ _
+      (λ r h. get_or_append_left values (v ∷ []) Any r (subst (λ (m : ℕ). r < m) (sym so_far.length) h) ∙ so_far.each r h)
+      (get_or_push values v Any n so_far.length ∙ is);
+}
 
 pub all_front : {X : Type 0} (P : X → Type 0) (xs : List X) (x : X) → All P (xs ++ x ∷ []) → All P xs
 all_front P xs x all = λ k d within.

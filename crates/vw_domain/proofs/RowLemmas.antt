@@ -1,7 +1,8 @@
 -- Rows of registers: what lies behind their ends, and a row while its front is joined.
-use Rattle.std.proofs.Common.{◌≡◌, ◌≢◌, ℕ, ◌+◌, ◌<◌, ◌≤◌, List, length, refl, arith, get_or-set_other, get_or-set_same, below_more, inl, inr, ap, ◌∙◌}
+use Rattle.std.proofs.Common.{◌≡◌, ◌≢◌, ℕ, ◌+◌, ◌<◌, ◌≤◌, List, length, refl, arith, get_or-set_other, get_or-set_same, below_more, inl, inr, ap, ◌∙◌, get_or}
 use Rattle.std.proofs.Math.ListN.{set, get_or-eq_default}
 use Rattle.std.proofs.lemmas.Bool.{cases_lt}
+use Rattle.std.proofs.lemmas.List.{get_or_default}
 use Rattle.vw_lattice.specs.Order.{IsJoin}
 use Rattle.vw_domain.specs.declared.registers.Register.{Register}
 use Rattle.vw_domain.specs.declared.gone.Gone.{Gone}
@@ -16,6 +17,13 @@ each P n front behind r = elim (cases_lt r n) [ inl less ↦ front r less | inr 
 -- nothing is known behind the last register
 pub unknown_at : (row : List Register) (r : ℕ) → length row ≤ r → register_at row r ≡ unknown_register
 unknown_at row r behind = get_or-eq_default row unknown_register behind
+
+-- what an index reads of a row, through a reference and as a copy
+pub read_at : (row : List Register) (i : ℕ) (v : Register) → i < length row → get_or row i v ≡ register_at row i
+read_at row i v within = get_or_default row i v unknown_register within
+
+pub element_at : (row : List Register) (i : ℕ) (v : Register) → i < length row → v ≡ get_or row i v → v ≡ register_at row i
+element_at row i v within is = is ∙ read_at row i v within
 
 pub all_below : (low high : List Register) → length low ≡ 17 → length high ≡ 17 → ((r : ℕ) → r < 17 → register_below (register_at low r) (register_at high r)) → row_below low high
 all_below low high a b front =

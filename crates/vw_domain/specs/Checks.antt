@@ -148,25 +148,3 @@ is_saved r = (r == 3) || ((r == 5) || ((r == 12) || ((r == 13) || ((r == 14) || 
 pub record MayReturn (st : Abstract) : Type 0 where
   pub rsp : st.offsets 4 ≡ offset.Known (pos 0)
   pub saved : (r : ℕ) → is_saved r ≡ true → value_of st r ≡ value.Entry r
-
--- ---- 2: an indirect jump has a table of targets, each inside
-
-abbrev pub JumpsInside : (ℕ → ℕ → Type 0) → Value → Type 0
-JumpsInside Inside (value.JumpDest a k) = (i : ℕ) → i < k → Inside a i
-JumpsInside Inside value.Any = ⊥
-JumpsInside Inside value.Num = ⊥
-JumpsInside Inside (value.Const c) = ⊥
-JumpsInside Inside (value.Below k) = ⊥
-JumpsInside Inside (value.Low k) = ⊥
-JumpsInside Inside (value.Both k) = ⊥
-JumpsInside Inside value.HeapBase = ⊥
-JumpsInside Inside value.HeapAddr = ⊥
-JumpsInside Inside value.Globals = ⊥
-JumpsInside Inside (value.Entry r) = ⊥
-JumpsInside Inside (value.Image a) = ⊥
-JumpsInside Inside (value.Index16 k m) = ⊥
-JumpsInside Inside (value.EntryPtr t) = ⊥
-JumpsInside Inside (value.EntryTyped t g) = ⊥
-JumpsInside Inside (value.TagOf t via) = ⊥
-JumpsInside Inside (value.TableFn t g) = ⊥
-JumpsInside Inside (value.JumpOff a k) = ⊥

@@ -22,7 +22,7 @@ use Rattle.vw_domain.specs.Sites.{Site, IsSite}
 use Rattle.vw_domain.specs.Statements.{apply, applies, finish}
 use Rattle.vw_domain.specs.Branches.{rule_at, MayGo, edge_state}
 use Rattle.vw_domain.specs.Calls.{after_call, after_probe}
-use Rattle.vw_domain.specs.Checks.{Passes, PassesAll, MayReturn, MayPush, HasHeapBase, IsTableFn, JumpsInside}
+use Rattle.vw_domain.specs.Checks.{Passes, PassesAll, MayReturn, MayPush, HasHeapBase, IsTableFn}
 use Rattle.vw_domain.specs.Stands.{Machine, StandsWith, StandsFor, WritesItsFrame}
 use Rattle.vw_domain.specs.FormRanges.{IsForm}
 use Rattle.vw_domain.specs.Soundness.{IsPlaced, IsMemory, HasTables, HasImage, ReadPermitted, WritePermitted, store, activation_after, HitsGuard, machine_in}
@@ -187,6 +187,4 @@ TransferChecksRise =
     (site : Site) (s t : Abstract) → IsBelow s t → (MayReturn t → MayReturn s) × (MayPush t → MayPush s) × (HasHeapBase t → HasHeapBase s)
 
 abbrev pub ValueChecksRise : Type 0
-ValueChecksRise =
-    (Inside : ℕ → ℕ → Bool) (v w : Value) → value_below v w
-    → (IsTableFn w → IsTableFn v) × (JumpsInside (λ a i. Inside a i ≡ true) w → JumpsInside (λ a i. Inside a i ≡ true) v)
+ValueChecksRise = (v w : Value) → value_below v w → IsTableFn w → IsTableFn v

@@ -1,5 +1,6 @@
 pub mod Registers
 pub mod RegisterOrder
+pub mod Cells
 pub mod State
 pub mod StateOrder
 pub mod StateJoin
@@ -27,3 +28,4 @@ pub mod Soundness
 pub mod ValueLaws
 pub mod EquationLaws
 pub mod FormLaws
+pub mod Plain

@@ -7,10 +7,11 @@ ghost use Rattle.vw_domain.specs.Calls.{after_call, after_probe, reach, deeper_b
 ghost use Rattle.vw_domain.specs.Stores.{called_register, CallsRow, is_left, key_limit, IsCallOffset, LeavesAll, Pushes, Calls};
 ghost use Rattle.vw_domain.specs.Writes.{is_gone};
 
-use crate::forgets::{forget_in_slots, remaining_register};
+use crate::cells::Cell;
+use crate::forgets::forget_in_slots;
 use crate::gone::{Gone, is_gone};
 use crate::parts::{Fact, Parts};
-use crate::registers::Register;
+use crate::registers::{Register, offset_at, value_at};
 use crate::state::State;
 use crate::stores::{add_below, lose_between};
 use vw_bits::OutOfMemory;
@@ -19,25 +20,26 @@ use vw_stack::Offset;
 use vw_values::Value;
 
 // What is known of a register once a call returned: some number where the call need not keep it.
-fn called_register(register: Register, number: u8, gone: Gone) -> Register
-    ensures { result ≡ called_register gone number register }
+fn call_in_cell(cell: &mut Cell, number: u8, gone: Gone)
+    ensures { cell.new ≡ called_register gone number cell.old }
 {
     if !is_gone(gone, number) {
-        return remaining_register(register, gone);
+        cell.forget(gone);
+        return;
     }
     let value = if number < 16 { Value::Num } else { Value::Any };
-    Register {
+    *cell = Cell::of(Register {
         offset: Offset::Unknown,
         value,
-    }
+    });
 }
 
-fn call_in_row(row: &mut [Register], gone: Gone)
+fn call_in_row(row: &mut [Cell], gone: Gone)
     requires { length row.old ≡ 17 }
     ensures { CallsRow gone row.old row.new }
 {
     for i in 0..17u8 {
-        row[i as usize] = called_register(row[i as usize], i, gone);
+        call_in_cell(&mut row[i as usize], i, gone);
     }
 }
 
@@ -152,7 +154,7 @@ impl State {
         ensures err { OnErr result (self.new ≡ self.old) }
     {
         let parts = &mut *self.parts;
-        let offset = parts.registers[4].offset;
+        let offset = offset_at(&parts.registers, 4);
         call(parts, offset, Gone::Unsaved)?;
         Ok(())
     }
@@ -167,8 +169,8 @@ impl State {
         ensures err { OnErr result (self.new ≡ self.old) }
     {
         let parts = &mut *self.parts;
-        let count = parts.registers[0].value;
-        let offset = parts.registers[4].offset;
+        let count = value_at(&parts.registers, 0);
+        let offset = offset_at(&parts.registers, 4);
         let depth = deeper(count, offset, parts.probed);
         call(parts, offset, Gone::Temporary)?;
         parts.probed = depth;

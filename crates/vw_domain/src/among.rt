@@ -4,7 +4,7 @@ ghost use Rattle.vw_values.specs.Values.{IsAmong};
 use vw_values::{Bounds, Value};
 
 // Whether the bound that a value names, where it names one, is among these.
-pub fn is_among(v: Value, bounds: &Bounds) -> bool
+pub(crate) fn is_among(v: Value, bounds: &Bounds) -> bool
     ensures { IsTrue result ↔ IsAmong bounds.now v }
 {
     match v {

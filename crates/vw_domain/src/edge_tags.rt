@@ -6,10 +6,11 @@ ghost use Rattle.vw_domain.specs.State.{AreSlots, IsState};
 ghost use Rattle.vw_domain.specs.Changes.{mark, is_other};
 ghost use Rattle.vw_domain.specs.Refines.{is_in, is_told, is_told_by, is_tagged, AddsTag, AddsRowTags, AddsSlotTags, AreTags};
 
+use crate::cells::Cell;
 use crate::gone::register_of;
 use crate::parts::Parts;
 use crate::refines::{Comparison, both, is_compared};
-use crate::registers::Register;
+use crate::registers::value_at;
 use vw_lattice::MapOf;
 use vw_names::{Classes, Spot};
 use vw_values::Value;
@@ -57,14 +58,14 @@ fn tell(tables: &mut [u64], value: Value, counts: bool)
 }
 
 // Adds the tags that are values of registers in the class of the flags.
-fn tell_row(tables: &mut [u64], row: &[Register; 17], classes: &Classes)
+fn tell_row(tables: &mut [u64], row: &[Cell; 17], classes: &Classes)
     requires tables { length tables.old ≡ 16 }
     requires row { IsRow row.now }
     ensures { AddsRowTags classes.now row.now tables.old tables.new }
 {
     for i in 0..17u8 {
         let counts = is_compared(classes, Spot::Reg(i));
-        tell(tables, row[i as usize].value, counts);
+        tell(tables, value_at(row, i), counts);
     }
 }
 
@@ -99,7 +100,7 @@ fn is_tagged(tables: &[u64; 16], classes: &Classes, place: Spot, table: u32) -> 
 }
 
 // A value with the tag, where it is that of such an entry.
-pub fn marked(value: Value, tags: &Tags, classes: &Classes, place: Spot) -> Value
+pub(crate) fn marked(value: Value, tags: &Tags, classes: &Classes, place: Spot) -> Value
     ensures { result
         ≡ mark tags.now.tag (is_tagged tags.now.tables classes.now (number place)) value }
 {
@@ -139,7 +140,7 @@ pub fn marked(value: Value, tags: &Tags, classes: &Classes, place: Spot) -> Valu
 }
 
 // Whether a value tells another tag of such an entry.
-pub fn is_other(value: Value, tags: &Tags, classes: &Classes, place: Spot) -> bool
+pub(crate) fn is_other(value: Value, tags: &Tags, classes: &Classes, place: Spot) -> bool
     ensures { result
         ≡ is_other tags.now.tag (is_tagged tags.now.tables classes.now (number place)) value }
 {
@@ -167,7 +168,7 @@ fn told_tables(parts: &Parts) -> [u64; 16]
 }
 
 // The tags that a comparison tells of a state.
-pub fn tags_of(parts: &Parts, comparison: Comparison) -> Tags
+pub(crate) fn tags_of(parts: &Parts, comparison: Comparison) -> Tags
     requires { IsState parts.now }
     ensures { AreTags parts.now comparison result }
 {

@@ -2,13 +2,14 @@ ghost use Rattle.std.specs.Prelude.{◌≡◌, length};
 ghost use Rattle.vw_lattice.specs.Entries.{IsAscending};
 ghost use Rattle.vw_domain.specs.Writes.{forgotten_register, ForgetsRow, ForgetsSlots};
 
+use crate::cells::Cell;
 use crate::gone::{Gone, remaining_value};
 use crate::registers::Register;
 use vw_lattice::MapOf;
 use vw_values::Value;
 
 // What is still known of a register once registers are written.
-pub fn remaining_register(register: Register, gone: Gone) -> Register
+pub(crate) fn remaining_register(register: Register, gone: Gone) -> Register
     ensures { result ≡ forgotten_register gone register }
 {
     Register {
@@ -18,17 +19,17 @@ pub fn remaining_register(register: Register, gone: Gone) -> Register
 }
 
 // Leaves of each register's value what it still says once registers are written.
-pub fn forget_in_row(row: &mut [Register], gone: Gone)
+pub(crate) fn forget_in_row(row: &mut [Cell], gone: Gone)
     requires { length row.old ≡ 17 }
     ensures { ForgetsRow gone row.old row.new }
 {
     for i in 0..17 {
-        row[i] = remaining_register(row[i], gone);
+        row[i].forget(gone);
     }
 }
 
 // The same for each slot's value.
-pub fn forget_in_slots(slots: &mut MapOf<Value>, gone: Gone)
+pub(crate) fn forget_in_slots(slots: &mut MapOf<Value>, gone: Gone)
     requires { IsAscending slots.old }
     ensures { ForgetsSlots gone slots.old slots.new }
 {

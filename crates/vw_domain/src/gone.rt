@@ -17,7 +17,7 @@ pub enum Gone {
 }
 
 // Whether an instruction writes a register.
-pub fn is_gone(gone: Gone, register: u8) -> bool
+pub(crate) fn is_gone(gone: Gone, register: u8) -> bool
     ensures { result ≡ is_gone gone register }
 {
     match gone {
@@ -28,7 +28,7 @@ pub fn is_gone(gone: Gone, register: u8) -> bool
 }
 
 // The register that tells where a tag was read.
-pub fn register_of(via: Via) -> u8
+pub(crate) fn register_of(via: Via) -> u8
     ensures { result ≡ register_of via }
 {
     match via {
@@ -38,7 +38,7 @@ pub fn register_of(via: Via) -> u8
 }
 
 // What a value still says once registers are written: a tag that was read by one of them says nothing.
-pub fn remaining_value(value: Value, gone: Gone) -> Value
+pub(crate) fn remaining_value(value: Value, gone: Gone) -> Value
     ensures { result ≡ forget (is_gone gone) value }
 {
     match value {

@@ -4,6 +4,7 @@
 mod after_calls;
 mod among;
 mod branch_edges;
+mod cells;
 mod changes;
 mod edge_tags;
 mod equation_laws;

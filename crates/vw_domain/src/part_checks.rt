@@ -4,6 +4,7 @@ ghost use Rattle.vw_domain.specs.State.{IsFact, IsNarrow};
 ghost use Rattle.vw_domain.specs.StateParts.{offset_of};
 ghost use Rattle.vw_domain.specs.PartRanges.{AreFrameRanges, AreSlotParts, HasNoRow, IsInRange, IsNextRange, IsNextSlot, IsRowOf, IsSlot};
 
+use crate::cells::Cell;
 use crate::parts::Fact;
 use crate::registers::Register;
 use crate::state_parts::{Slot, StateParts};
@@ -46,23 +47,24 @@ fn register_of(offset: Option<i64>, value: Value) -> Register
 
 // The row of the registers with these distances and values. None exactly where a list has not sixteen, or a register is
 // not in its ranges.
-pub fn row_of(offsets: &[Option<i64>], values: &[Value]) -> Option<[Register; 17]>
+pub(crate) fn row_of(offsets: &[Option<i64>], values: &[Value]) -> Option<[Cell; 17]>
     ensures { MatchOption result (HasNoRow offsets.now values.now) (IsRowOf offsets.now values.now) }
 {
     if offsets.len() != 16 || values.len() != 16 {
         return None;
     }
-    let unknown = Register {
+    let unknown = Cell::of(Register {
         offset: Offset::Unknown,
         value: Value::Any,
-    };
+    });
     let mut row = [unknown; 17];
     for i in 0..16 {
         let register = register_of(offsets[i], values[i]);
         if !is_register(register) {
             return None;
         }
-        row[i] = register;
+        let cell = Cell::of(register);
+        row[i] = cell;
     }
     Some(row)
 }
@@ -153,7 +155,7 @@ fn are_slots(slots: &[Slot]) -> bool
 }
 
 // Whether the depth, the fact, the ranges and the slots are those of a state.
-pub fn are_in_range(parts: &StateParts) -> bool
+pub(crate) fn are_in_range(parts: &StateParts) -> bool
     ensures { IsTrue result ↔ IsInRange parts.now }
 {
     parts.probed <= WHOLE

@@ -3,6 +3,7 @@ ghost use Rattle.vw_lattice.specs.Order.{IsJoin};
 ghost use Rattle.vw_domain.specs.State.{fact_below, state_below, IsValidState, unknown_state};
 ghost use Rattle.vw_domain.specs.StateJoin.{IsFactJoin, JoinsParts};
 
+use crate::cells::Cell;
 use crate::registers::{Register, is_row_below, join_rows};
 use std::alloc::Global;
 use vw_bits::OutOfMemory;
@@ -26,7 +27,7 @@ pub enum Fact {
 #[derive(Drop)]
 pub struct Parts {
     /// The registers, by their numbers. Number 16 holds a number within one instruction.
-    pub registers: [Register; 17],
+    pub registers: [Cell; 17],
     /// How deep the stack was probed, in bytes.
     pub probed: u64,
     /// The bytes of the frame that were written.
@@ -38,6 +39,9 @@ pub struct Parts {
     /// What the flags tell.
     pub fact: Fact,
 }
+
+// With ten slots a state takes at most 1,200 bytes.
+const _: () = prove!(size_of::<Parts>() + 10 * size_of::<(i64, Value)>() <= 1_200);
 
 fn is_fact_below(low: Fact, high: Fact) -> bool
     ensures { IsTrue result ↔ fact_below low high }
@@ -61,7 +65,7 @@ fn fact_of_both(a: Fact, b: Fact) -> Fact
 }
 
 // Whether each part is below that of the other.
-pub fn is_below(low: &Parts, high: &Parts) -> bool
+pub(crate) fn is_below(low: &Parts, high: &Parts) -> bool
     ensures { IsTrue result ↔ state_below low.now high.now }
 {
     high.probed <= low.probed
@@ -73,7 +77,7 @@ pub fn is_below(low: &Parts, high: &Parts) -> bool
 }
 
 // Joins valid states part by part. Where memory is refused, nothing more is known of the parts.
-pub fn join(parts: &mut Parts, other: &Parts, bounds: &Bounds) -> Result<(), OutOfMemory>
+pub(crate) fn join(parts: &mut Parts, other: &Parts, bounds: &Bounds) -> Result<(), OutOfMemory>
     requires valid { IsValidState bounds.now parts.old }
     requires other { IsValidState bounds.now other.now }
     ensures { IfOk result (λ _. JoinsParts bounds.now parts.old other.now parts.new) }
@@ -88,7 +92,7 @@ pub fn join(parts: &mut Parts, other: &Parts, bounds: &Bounds) -> Result<(), Out
 }
 
 // Equal parts.
-pub fn copy(parts: &Parts) -> Result<Parts, OutOfMemory>
+pub(crate) fn copy(parts: &Parts) -> Result<Parts, OutOfMemory>
     ensures { IfOk result (λ copy. copy ≡ parts.now) }
 {
     let written = parts.written.copy()?;
@@ -105,15 +109,15 @@ pub fn copy(parts: &Parts) -> Result<Parts, OutOfMemory>
 }
 
 // The parts of the state in which nothing is known. Takes no memory.
-pub fn unknown_parts(alloc: Global) -> Parts
+pub(crate) fn unknown_parts(alloc: Global) -> Parts
     ensures { result ≡ unknown_state }
 {
-    let register = Register {
+    let cell = Cell::of(Register {
         offset: Offset::Unknown,
         value: Value::Any,
-    };
+    });
     Parts {
-        registers: [register; 17],
+        registers: [cell; 17],
         probed: 0,
         written: Written::new(alloc),
         slots: MapOf::new(alloc),

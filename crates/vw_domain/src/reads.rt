@@ -5,7 +5,7 @@ ghost use Rattle.vw_domain.specs.Registers.{IsWithin};
 ghost use Rattle.vw_domain.specs.Abstract.{abstract_of, IsFrameSpot, slot_key, value_of, is_there, class_number, is_place};
 
 use crate::parts::{Fact, Parts};
-use crate::registers::Register;
+use crate::registers::{Register, value_at};
 use crate::state::State;
 use vw_bits::OutOfMemory;
 use vw_lattice::MapOf;
@@ -13,7 +13,7 @@ use vw_names::Spot;
 use vw_values::Value;
 
 // The key of the slot at an offset.
-pub fn key_at(slots: &MapOf<Value>, offset: i64) -> i64
+pub(crate) fn key_at(slots: &MapOf<Value>, offset: i64) -> i64
     requires { IsWithin (2 ^ 32) offset }
     ensures { result ≡ slot_key slots.now offset }
 {
@@ -40,7 +40,7 @@ fn is_there(parts: &Parts, place: Spot) -> bool
 }
 
 // A place as the classes name it.
-pub fn named_place(parts: &Parts, place: Spot) -> Spot
+pub(crate) fn named_place(parts: &Parts, place: Spot) -> Spot
     requires { IsFrameSpot place }
     ensures { number result ≡ class_number parts.now place }
 {
@@ -52,12 +52,12 @@ pub fn named_place(parts: &Parts, place: Spot) -> Spot
 }
 
 // The value of a place; any where nothing is known of it.
-pub fn value_of(parts: &Parts, place: Spot) -> Value
+pub(crate) fn value_of(parts: &Parts, place: Spot) -> Value
     requires { IsFrameSpot place }
     ensures { result ≡ value_of parts.now place }
 {
     match place {
-        Spot::Reg(r) => parts.registers[r as usize].value,
+        Spot::Reg(r) => value_at(&parts.registers, r),
         Spot::Flags => Value::Any,
         Spot::Slot(offset) => match parts.slots.get(key_at(&parts.slots, offset)) {
             Some(value) => *value,
@@ -66,7 +66,7 @@ pub fn value_of(parts: &Parts, place: Spot) -> Value
     }
 }
 
-pub fn is_one(a: Spot, b: Spot) -> bool
+pub(crate) fn is_one(a: Spot, b: Spot) -> bool
     ensures { IsTrue result ↔ (is_place a b ≡ true) }
 {
     match (a, b) {
@@ -89,7 +89,7 @@ impl State {
         ensures offset { result.offset ≡ (abstract_of self.now).offsets r }
         ensures value { result.value ≡ (abstract_of self.now).values (Spot.Reg r) }
     {
-        self.parts.registers[r as usize]
+        self.parts.registers[r as usize].register()
     }
 
     /// The value of a place; any where nothing is known of it. A slot lies at most 2^32 bytes from the value of rsp

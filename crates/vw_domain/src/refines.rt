@@ -1,11 +1,12 @@
 ghost use Rattle.std.specs.Prelude.{◌≡◌, ◌<◌, ◌&&◌, length};
 ghost use Rattle.vw_names.specs.Spot.{number};
-ghost use Rattle.vw_domain.specs.Refines.{refinement, IsComparison, is_compared, passes, left_value, may_pass, EachRegister, EachSlot};
+ghost use Rattle.vw_domain.specs.Refines.{refinement, IsComparison, is_compared, passes, left_value, may_pass, with_value_by, EachRegister, EachSlot};
+ghost use Rattle.vw_domain.specs.Plain.{is_plain};
 ghost use Rattle.vw_domain.specs.State.{AreSlots};
 ghost use Rattle.vw_domain.specs.Changes.{refined_by};
 
+use crate::cells::Cell;
 use crate::edge_tags::{Tags, is_other, marked};
-use crate::registers::Register;
 use vw_insn::Width;
 use vw_lattice::MapOf;
 use vw_names::{Classes, Spot};
@@ -32,7 +33,7 @@ fn refinement(value: Value, comparison: Comparison, bounds: &Bounds) -> Option<V
 }
 
 // Whether a place is in the class of the flags.
-pub fn is_compared(classes: &Classes, place: Spot) -> bool
+pub(crate) fn is_compared(classes: &Classes, place: Spot) -> bool
     ensures { result ≡ is_compared classes.now (number place) }
 {
     classes.same(Spot::Flags, place)
@@ -59,7 +60,7 @@ fn refined_value(
 }
 
 // Whether both hold.
-pub fn both(a: bool, b: bool) -> bool
+pub(crate) fn both(a: bool, b: bool) -> bool
     ensures { result ≡ (a && b) }
 {
     a && b
@@ -87,10 +88,40 @@ fn left_value(
     (left, both(refined.1, !other))
 }
 
+// Whether the edge changes nothing in a place.
+fn is_plain(cell: &Cell, place: Spot, classes: &Classes) -> bool
+    ensures { result ≡ is_plain classes.now (number place) cell.now.value }
+{
+    !cell.is_entry() && !is_compared(classes, place)
+}
+
+// Leaves that of the value of a register, and answers whether control may go along the edge as far as it tells.
+fn edge_cell(
+    cell: &mut Cell,
+    place: Spot,
+    classes: &Classes,
+    comparison: Comparison,
+    tags: &Tags,
+    bounds: &Bounds,
+) -> bool
+    requires { IsComparison comparison }
+    ensures value { cell.new ≡ with_value_by (left_value classes.now (refinement comparison bounds.now) tags.now)
+        (number place) cell.old }
+    ensures passes { result ≡ may_pass classes.now (refinement comparison bounds.now) tags.now
+        (number place) cell.old.value }
+{
+    if is_plain(cell, place, classes) {
+        return true;
+    }
+    let left = left_value(cell.value(), place, classes, comparison, tags, bounds);
+    cell.set_value(left.0);
+    left.1
+}
+
 // Refines the values of the registers in the class of the flags and marks those of entries, and answers whether control
 // may go along the edge as far as they tell.
-pub fn edge_row(
-    row: &mut [Register],
+pub(crate) fn edge_row(
+    row: &mut [Cell],
     classes: &Classes,
     comparison: Comparison,
     tags: &Tags,
@@ -103,26 +134,15 @@ pub fn edge_row(
 {
     let mut all = true;
     for i in 0..17u8 {
-        let register = row[i as usize];
-        let left = left_value(
-            register.value,
-            Spot::Reg(i),
-            classes,
-            comparison,
-            tags,
-            bounds,
-        );
-        row[i as usize] = Register {
-            offset: register.offset,
-            value: left.0,
-        };
-        all = both(all, left.1);
+        let cell = &mut row[i as usize];
+        let passes = edge_cell(cell, Spot::Reg(i), classes, comparison, tags, bounds);
+        all = both(all, passes);
     }
     all
 }
 
 // The same for the slots.
-pub fn edge_slots(
+pub(crate) fn edge_slots(
     slots: &mut MapOf<Value>,
     classes: &Classes,
     comparison: Comparison,

@@ -2,7 +2,7 @@ ghost use Rattle.std.specs.Prelude.{◌≡◌, ◌↔◌, ◌≤◌, ◌<◌, �
 ghost use Rattle.vw_lattice.specs.Order.{IsJoin};
 ghost use Rattle.vw_domain.specs.Registers.{IsValidRegister, register_below, register_at, row_below, IsRow, IsValidRow, JoinsRows, IsRowAmong};
 
-use crate::among::is_among;
+use crate::cells::Cell;
 use vw_bits::OutOfMemory;
 use vw_lattice::Lattice;
 use vw_stack::Offset;
@@ -18,25 +18,36 @@ pub struct Register {
     pub value: Value,
 }
 
+// Cells are most often equal, and then nothing is unpacked.
+fn is_cell_below(low: &Cell, high: &Cell) -> bool
+    ensures { IsTrue result ↔ register_below low.now high.now }
+{
+    low.is_same(high) || are_parts_below(low, high)
+}
+
+#[inline(never)]
+fn are_parts_below(low: &Cell, high: &Cell) -> bool
+    ensures { IsTrue result ↔ register_below low.now high.now }
+{
+    is_register_below(&low.register(), &high.register())
+}
+
 fn is_register_below(low: &Register, high: &Register) -> bool
     ensures { IsTrue result ↔ register_below low.now high.now }
 {
     low.offset.leq(&high.offset) && low.value.leq(&high.value)
 }
 
-// The join of what is known of a register twice. Where one is below the other, which is most often so, it is the other,
-// and nothing is joined.
-fn join_of(register: Register, other: &Register, bounds: &Bounds) -> Result<Register, OutOfMemory>
+// The join part by part.
+fn join_parts(
+    register: Register,
+    other: &Register,
+    bounds: &Bounds,
+) -> Result<Register, OutOfMemory>
     requires valid { IsValidRegister bounds.now register }
     requires other { IsValidRegister bounds.now other.now }
     ensures { IfOk result (λ join. IsJoin register_below (IsValidRegister bounds.now) register other.now join) }
 {
-    if is_register_below(other, &register) {
-        return Ok(register);
-    }
-    if is_register_below(&register, other) {
-        return Ok(*other);
-    }
     let mut offset = register.offset;
     let mut value = register.value;
     let _offset = offset.join(&other.offset, &())?;
@@ -44,12 +55,56 @@ fn join_of(register: Register, other: &Register, bounds: &Bounds) -> Result<Regi
     Ok(Register { offset, value })
 }
 
+// Joins what is known of a register twice. Where one is below the other, which is most often so, it is the other, and
+// nothing is joined.
+fn join_cell(cell: &mut Cell, other: &Cell, bounds: &Bounds) -> Result<(), OutOfMemory>
+    requires valid { IsValidRegister bounds.now cell.old }
+    requires other { IsValidRegister bounds.now other.now }
+    ensures { IfOk result (λ _. IsJoin register_below (IsValidRegister bounds.now) cell.old other.now cell.new) }
+{
+    if is_cell_below(other, cell) {
+        return Ok(());
+    }
+    join_other(cell, other, bounds)
+}
+
+#[inline(never)]
+fn join_other(cell: &mut Cell, other: &Cell, bounds: &Bounds) -> Result<(), OutOfMemory>
+    requires valid { IsValidRegister bounds.now cell.old }
+    requires other { IsValidRegister bounds.now other.now }
+    ensures { IfOk result (λ _. IsJoin register_below (IsValidRegister bounds.now) cell.old other.now cell.new) }
+{
+    if are_parts_below(cell, other) {
+        *cell = *other;
+        return Ok(());
+    }
+    let join = join_parts(cell.register(), &other.register(), bounds)?;
+    *cell = Cell::of(join);
+    Ok(())
+}
+
+// How far a register is from the value that rsp had at the function's entry.
+pub(crate) fn offset_at(row: &[Cell; 17], r: u8) -> Offset
+    requires { r < 17 }
+    ensures { result ≡ (register_at row.now r).offset }
+{
+    row[r as usize].offset()
+}
+
+// A register's value.
+pub(crate) fn value_at(row: &[Cell; 17], r: u8) -> Value
+    requires { r < 17 }
+    ensures { result ≡ (register_at row.now r).value }
+{
+    row[r as usize].value()
+}
+
 // Whether each register of a row is below that of the other.
-pub fn is_row_below(low: &[Register; 17], high: &[Register; 17]) -> bool
+pub(crate) fn is_row_below(low: &[Cell; 17], high: &[Cell; 17]) -> bool
     ensures { IsTrue result ↔ row_below low.now high.now }
 {
     for i in 0..17 {
-        if !is_register_below(&low[i], &high[i]) {
+        if !is_cell_below(&low[i], &high[i]) {
             return false;
         }
     }
@@ -57,9 +112,9 @@ pub fn is_row_below(low: &[Register; 17], high: &[Register; 17]) -> bool
 }
 
 // Joins each of seventeen registers with that of the other row.
-pub fn join_rows(
-    row: &mut [Register],
-    other: &[Register],
+pub(crate) fn join_rows(
+    row: &mut [Cell],
+    other: &[Cell],
     bounds: &Bounds,
 ) -> Result<(), OutOfMemory>
     requires row { length row.old ≡ 17 }
@@ -69,18 +124,17 @@ pub fn join_rows(
     ensures { IfOk result (λ _. JoinsRows bounds.now row.old other.now row.new) }
 {
     for i in 0..17 {
-        let joined = join_of(row[i], &other[i], bounds)?;
-        row[i] = joined;
+        join_cell(&mut row[i], &other[i], bounds)?;
     }
     Ok(())
 }
 
 // Whether the bound that each register's value names is among these.
-pub fn is_row_among(row: &[Register; 17], bounds: &Bounds) -> bool
+pub(crate) fn is_row_among(row: &[Cell; 17], bounds: &Bounds) -> bool
     ensures { IsTrue result ↔ IsRowAmong bounds.now row.now }
 {
     for i in 0..17 {
-        if !is_among(row[i].value, bounds) {
+        if !row[i].is_among(bounds) {
             return false;
         }
     }

@@ -6,7 +6,7 @@ use vw_lattice::MapOf;
 use vw_values::{Bounds, Value};
 
 // Whether the bound that each slot's value names is among these.
-pub fn are_slots_among(slots: &MapOf<Value>, bounds: &Bounds) -> bool
+pub(crate) fn are_slots_among(slots: &MapOf<Value>, bounds: &Bounds) -> bool
     requires { AreSlots slots.now }
     ensures { IsTrue result ↔ AreSlotsAmong bounds.now slots.now }
 {

@@ -2,6 +2,7 @@ ghost use Rattle.std.specs.Prelude.{◌≡◌, ◌↔◌, IsTrue, IfOk};
 ghost use Rattle.vw_domain.specs.State.{Fits, IsState, IsValidState, state_below, state_rank, plain_register, entry_state};
 ghost use Rattle.vw_domain.specs.StateOrder.{state_reflexive, state_transitive, state_antisymmetric, state_falls, state_strict};
 
+use crate::cells::Cell;
 use crate::parts::{Parts, copy, is_below, join, unknown_parts};
 use crate::registers::{Register, is_row_among};
 use crate::slots::are_slots_among;
@@ -109,13 +110,13 @@ impl Lattice for State {
 }
 
 // A register with this value, at no known distance.
-fn plain_register(value: Value) -> Register
+fn plain_register(value: Value) -> Cell
     ensures { result ≡ plain_register value }
 {
-    Register {
+    Cell::of(Register {
         offset: Offset::Unknown,
         value,
-    }
+    })
 }
 
 /// The state at a function's entry: rsp is at offset 0, rdi holds the heap's base, rbx, rbp and r12 to r15 hold what
@@ -126,15 +127,15 @@ pub fn entry_state(alloc: Global) -> Result<State, OutOfMemory>
 {
     let mut parts = unknown_parts(alloc);
     let number = plain_register(Value::Num);
-    parts.registers = [
+    let registers = [
         number,
         number,
         number,
         plain_register(Value::Entry(3)),
-        Register {
+        Cell::of(Register {
             offset: Offset::Known(0),
             value: Value::Any,
-        },
+        }),
         plain_register(Value::Entry(5)),
         number,
         plain_register(Value::HeapBase),
@@ -148,5 +149,6 @@ pub fn entry_state(alloc: Global) -> Result<State, OutOfMemory>
         plain_register(Value::Entry(15)),
         plain_register(Value::Any),
     ];
+    parts.registers = registers;
     State::with(alloc, parts)
 }

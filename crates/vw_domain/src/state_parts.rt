@@ -4,8 +4,9 @@ ghost use Rattle.vw_locals.specs.Ranges.{IsRanges};
 ghost use Rattle.vw_domain.specs.State.{IsInFrame, wide_key, narrow_key};
 ghost use Rattle.vw_domain.specs.StateParts.{HasParts, HasSize, AreOffsets, AreValues, IsPlaceOf, ArePlacesOf, AreClassesOf, entry_of, offset_of};
 
+use crate::cells::Cell;
 use crate::parts::{Fact, Parts};
-use crate::registers::Register;
+use crate::registers::{offset_at, value_at};
 use crate::state::State;
 use std::alloc::Global;
 use vw_bits::{List, OutOfMemory};
@@ -58,23 +59,23 @@ fn offset_of(offset: Offset) -> Option<i64>
 }
 
 // The distances of registers 0 to 15.
-fn offsets_of(alloc: Global, row: &[Register; 17]) -> Result<List<Option<i64>>, OutOfMemory>
+fn offsets_of(alloc: Global, row: &[Cell; 17]) -> Result<List<Option<i64>>, OutOfMemory>
     ensures { IfOk result (AreOffsets 16 row.now) }
 {
     let mut offsets = List::new(alloc);
-    for i in 0..16 {
-        offsets.push(offset_of(row[i].offset))?;
+    for i in 0..16u8 {
+        offsets.push(offset_of(offset_at(row, i)))?;
     }
     Ok(offsets)
 }
 
 // The values of registers 0 to 15.
-fn values_of(alloc: Global, row: &[Register; 17]) -> Result<List<Value>, OutOfMemory>
+fn values_of(alloc: Global, row: &[Cell; 17]) -> Result<List<Value>, OutOfMemory>
     ensures { IfOk result (AreValues 16 row.now) }
 {
     let mut values = List::new(alloc);
-    for i in 0..16 {
-        values.push(row[i].value)?;
+    for i in 0..16u8 {
+        values.push(value_at(row, i))?;
     }
     Ok(values)
 }

@@ -8,6 +8,7 @@ ghost use Rattle.vw_domain.specs.Changes.{store_frame};
 ghost use Rattle.vw_domain.specs.Stores.{content_size, content_source, content_value, IsContent, IsContentAmong, LosesSlots, is_overlapped, PutsContent, PutsSlot, AddsBelow, StoresBytes};
 
 use crate::parts::{Parts, unknown_parts};
+use crate::registers::value_at;
 use crate::state::State;
 use vw_bits::OutOfMemory;
 use vw_names::Spot;
@@ -27,7 +28,7 @@ pub enum Content {
 }
 
 // Takes out the slots with keys from `low` to `high` - 1. Takes no memory.
-pub fn lose_between(parts: &mut Parts, low: i64, high: i64)
+pub(crate) fn lose_between(parts: &mut Parts, low: i64, high: i64)
     ensures { LosesSlots (is_between low high) parts.old parts.new }
 {
     parts.classes.leave_slots(low, high);
@@ -62,7 +63,7 @@ fn put_copy(parts: &mut Parts, key: i64, register: u8) -> Result<(), OutOfMemory
     ensures ok { OnOk result (PutsSlot key (register_at parts.old.registers register).value
         (Some register) parts.old parts.new) }
 {
-    let value = parts.registers[register as usize].value;
+    let value = value_at(&parts.registers, register);
     parts.slots.put(key, value)?;
     parts.classes.follow(Spot::Slot(key), Spot::Reg(register))?;
     Ok(())
@@ -85,7 +86,7 @@ fn put_content(parts: &mut Parts, offset: i64, content: Content) -> Result<(), O
 
 // Adds the bytes of the frame from `low` to `high` - 1 to those that were written, but for those at the value that rsp
 // had at the function's entry and above. Where memory is refused, the parts stay as they were.
-pub fn add_below(parts: &mut Parts, low: i64, high: i64) -> Result<(), OutOfMemory>
+pub(crate) fn add_below(parts: &mut Parts, low: i64, high: i64) -> Result<(), OutOfMemory>
     ensures ok { OnOk result (AddsBelow low high parts.old parts.new) }
     ensures err { OnErr result (parts.new ≡ parts.old) }
 {

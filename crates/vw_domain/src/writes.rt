@@ -5,6 +5,7 @@ ghost use Rattle.vw_domain.specs.Registers.{IsRegister};
 ghost use Rattle.vw_domain.specs.State.{IsState};
 ghost use Rattle.vw_domain.specs.Writes.{FollowsPlace, WritesRegister};
 
+use crate::cells::Cell;
 use crate::forgets::{forget_in_row, forget_in_slots, remaining_register};
 use crate::gone::Gone;
 use crate::parts::Parts;
@@ -15,7 +16,7 @@ use vw_names::Spot;
 use vw_stack::Offset;
 
 // Puts a number that no other place has into a register.
-pub fn write(parts: &mut Parts, register: u8, known: Register)
+pub(crate) fn write(parts: &mut Parts, register: u8, known: Register)
     requires register { register < 17 }
     requires parts { IsState parts.old }
     ensures { WritesRegister register None known parts.old parts.new }
@@ -24,12 +25,12 @@ pub fn write(parts: &mut Parts, register: u8, known: Register)
     parts.classes.leave(Spot::Reg(register));
     forget_in_row(&mut parts.registers, gone);
     forget_in_slots(&mut parts.slots, gone);
-    parts.registers[register as usize] = remaining_register(known, gone);
+    parts.registers[register as usize] = Cell::of(remaining_register(known, gone));
 }
 
 // Puts a place into the class of another; where both are one place it stays in its class. Where memory is refused, the
 // parts stay as they were.
-pub fn follow_place(parts: &mut Parts, place: Spot, source: Spot) -> Result<(), OutOfMemory>
+pub(crate) fn follow_place(parts: &mut Parts, place: Spot, source: Spot) -> Result<(), OutOfMemory>
     requires place { IsFrameSpot place }
     requires source { IsFrameSpot source }
     requires there { is_there parts.old source ≡ true }
@@ -48,7 +49,7 @@ pub fn follow_place(parts: &mut Parts, place: Spot, source: Spot) -> Result<(), 
 }
 
 // Puts the number of a place into a register. Where memory is refused, the parts stay as they were.
-pub fn copy_place(
+pub(crate) fn copy_place(
     parts: &mut Parts,
     register: u8,
     source: Spot,
@@ -67,6 +68,7 @@ pub fn copy_place(
     follow_place(parts, Spot::Reg(register), source)?;
     forget_in_row(&mut parts.registers, gone);
     forget_in_slots(&mut parts.slots, gone);
-    parts.registers[register as usize] = remaining_register(Register { offset, value }, gone);
+    let known = Register { offset, value };
+    parts.registers[register as usize] = Cell::of(remaining_register(known, gone));
     Ok(())
 }

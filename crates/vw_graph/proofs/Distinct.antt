@@ -2,9 +2,9 @@
 use Rattle.std.proofs.Common.{◌≡◌, ◌≢◌, ℕ, zero, suc, ◌*◌, ◌<◌, ◌≤◌, List, [], ◌∷◌, ◌++◌, length, length-append, refl, sym, ap, subst, arith, inl, inr, ◌⊎◌}
 use Rattle.std.specs.List.{Contains}
 use Rattle.std.proofs.lemmas.Bool.{cases_eq}
-use Rattle.std.proofs.lemmas.List.Elements.{Contains-append_left, Contains-append_right, Contains-append_cases}
+use Rattle.std.proofs.lemmas.List.Elements.{Contains-append_left, Contains-append_right}
 use Rattle.vw_state.specs.Rounds.{AreDistinct}
-use Rattle.vw_graph.proofs.Members.{contains_head, contains_tail, contains_nil, contains_cases}
+use Rattle.vw_graph.proofs.Members.{contains_head, contains_tail, contains_none, contains_cases, distinct_fit}
 
 abbrev pub Pair : Type 0
 Pair = ℕ × ℕ
@@ -21,7 +21,7 @@ one_pair p q = elim (cases_eq p.0 q.0) [
 ]
 
 pub is_member : (xs : List Pair) (p : Pair) → Contains xs p ⊎ (Contains xs p → ⊥)
-is_member [] p = inr (λ c. contains_nil p c)
+is_member [] p = inr (λ c. contains_none p c)
 is_member (x ∷ xs) p = elim (one_pair x p) [
   | inl same ↦ let C : Pair → Type 0 = λ z. Contains (x ∷ xs) z in inl (subst C same (contains_head x xs))
   | inr other ↦ elim (is_member xs p) [
@@ -67,44 +67,6 @@ distinct_from (p ∷ ps) q c = elim (add_from (distinct ps) p q (is_member (dist
   | inl same ↦ let C : Pair → Type 0 = λ z. Contains (p ∷ ps) z in subst C same (contains_head p ps)
   | inr later ↦ contains_tail p q ps (distinct_from ps q later)
 ]
-
--- ---- how many
-
-split_at : {X : Type 0} (x : X) (ys : List X) → Contains ys x → (front : List X) × (back : List X) × (ys ≡ front ++ x ∷ back)
-split_at x [] c = absurd (contains_nil x c)
-split_at {X} x (y ∷ ys) c = elim (contains_cases y x ys c) [
-  | inl same ↦ ([], ys, ap (λ (z : X). z ∷ ys) same)
-  | inr later ↦ let r = split_at x ys later in (y ∷ r.0, r.1, ap (λ (zs : List X). y ∷ zs) r.2)
-]
-
--- pairs without doubles that are among others are no more than these
-pub distinct_fit : (xs ys : List Pair) → AreDistinct xs → ((x : Pair) → Contains xs x → Contains ys x) → length xs ≤ length ys
-distinct_fit [] ys d each = omega arith
-distinct_fit (x ∷ xs) ys d each =
-    let at = split_at x ys (each x (contains_head x xs)) in
-    let rest : (y : Pair) → Contains xs y → Contains (at.0 ++ at.1) y = λ y c.
-    let P : List Pair → Type 0 = λ zs. Contains zs y in
-    elim (Contains-append_cases at.0 (x ∷ at.1) y (subst P at.2 (each y (contains_tail x y xs c)))) [
-      | inl front ↦ Contains-append_left at.0 at.1 y front
-      | inr behind ↦ elim (contains_cases x y at.1 behind) [
-        | inl same ↦ let Q : Pair → Type 0 = λ z. Contains xs z in absurd (d.0 (subst Q (sym same) c))
-        | inr back ↦ Contains-append_right at.0 at.1 y back
-      ]
-    ]
-    in
-    let fit = distinct_fit xs (at.0 ++ at.1) d.1 rest in
-    let whole : length ys ≡ length (at.0 ++ x ∷ at.1) = ap (λ (zs : List Pair). length zs) at.2 in
-    omega (arith, fit, whole, length-append at.0 at.1, length-append at.0 (x ∷ at.1))
-
--- and fewer, where there is one more
-pub distinct_fewer : (xs ys : List Pair) (y : Pair) → AreDistinct xs → ((x : Pair) → Contains xs x → Contains ys x) → Contains ys y → (Contains xs y → ⊥) → length xs < length ys
-distinct_fewer xs ys y d each there new =
-    let more : (x : Pair) → Contains (y ∷ xs) x → Contains ys x = λ x c. elim (contains_cases y x xs c) [
-      | inl same ↦ let P : Pair → Type 0 = λ z. Contains ys z in subst P same there
-      | inr later ↦ each x later
-    ] in
-    let fit = distinct_fit (y ∷ xs) ys (new, d) more in
-    omega (arith, fit)
 
 -- ---- all pairs of small numbers
 

@@ -1,7 +1,6 @@
 -- Where jumps through registers go to more points, there are more edges.
-use Rattle.std.proofs.Common.{◌≡◌, ◌≢◌, ℕ, ◌+◌, ◌==◌, Bool, true, false, List, [], ◌∷◌, drop, Option, Some, None, if◌then◌else◌, ap, subst, inl, inr, ◌⊎◌}
+use Rattle.std.proofs.Common.{◌≡◌, ℕ, ◌+◌, List, [], ◌∷◌, drop, Option, Some, None, ap, subst, inl, inr}
 use Rattle.std.specs.List.{Contains}
-use Rattle.std.proofs.lemmas.Bool.Decides.{eqb_tells}
 use Rattle.vw_insn.specs.declared.instruction.Insn.{Insn}
 use Rattle.vw_stmt.specs.declared.operands.Var.{Var}
 use Rattle.vw_stmt.specs.declared.statement.Flow.{Flow}
@@ -13,19 +12,19 @@ use Rattle.vw_domain.specs.Abstract.{Abstract}
 use Rattle.vw_domain.specs.Statements.{finish}
 use Rattle.vw_state.specs.Context.{Context, code_of}
 use Rattle.vw_state.specs.Post.{carry, flow_forms, form_behind, insn_forms, with_state, seconds, edges_read, edges_by, edges_with}
-use Rattle.vw_graph.proofs.Members.{contains_head, contains_tail, contains_nil, contains_cases, map_more}
+use Rattle.vw_graph.proofs.Members.{contains_head, contains_tail, contains_none, contains_cases, seconds_has, seconds_from, map_more}
 
 -- ---- carried states
 
 carry_has : (points : List ℕ) (st : Abstract) (to : ℕ) → Contains points to → Contains (carry points st) (to, st)
-carry_has [] st to c = absurd (contains_nil to c)
+carry_has [] st to c = absurd (contains_none to c)
 carry_has (p ∷ points) st to c = elim (contains_cases p to points c) [
   | inl same ↦ let C : ℕ → Type 0 = λ n. Contains ((p, st) ∷ carry points st) (n, st) in subst C same (contains_head (p, st) (carry points st))
   | inr later ↦ contains_tail (p, st) (to, st) (carry points st) (carry_has points st to later)
 ]
 
 carry_from : (points : List ℕ) (st : Abstract) (e : ℕ × Abstract) → Contains (carry points st) e → Contains points e.0 × (st ≡ e.1)
-carry_from [] st e c = absurd (contains_nil e c)
+carry_from [] st e c = absurd (contains_none e c)
 carry_from (p ∷ points) st e c = elim (contains_cases (p, st) e (carry points st) c) [
   | inl same ↦
       let C : ℕ → Type 0 = λ n. Contains (p ∷ points) n in
@@ -62,46 +61,6 @@ module _ (f : Context) (less more : Var → Abstract → List ℕ) (each : (src 
   edges_more : (at : ℕ) (state : Parts) (e : ℕ × Parts) → Contains (edges_by f less at state) e → Contains (edges_by f more at state) e
   unfolding edges_by
   edges_more at state e c = read_more at state (read (drop at (code_of f))) e c
-
--- ---- the pairs of a point
-
-pub seconds_has : (a b : ℕ) (pairs : List (ℕ × ℕ)) → Contains pairs (a, b) → Contains (seconds a pairs) b
-seconds_has a b [] c = absurd (contains_nil (a, b) c)
-seconds_has a b (pair ∷ pairs) c = from (pair.0 == a) (eqb_tells pair.0 a) (λ later. seconds_has a b pairs later)
-  where
-    here : Contains (pair ∷ pairs) (a, b) → (pair.0 ≡ a → ⊥) → Contains pairs (a, b)
-    here has apart = elim (contains_cases pair (a, b) pairs has) [
-      | inl same ↦ absurd (apart (ap (λ (p : ℕ × ℕ). p.0) same))
-      | inr later ↦ later
-    ]
-
-    there : (Contains pairs (a, b) → Contains (seconds a pairs) b) → Contains (pair.1 ∷ seconds a pairs) b
-    there rest = elim (contains_cases pair (a, b) pairs c) [
-      | inl same ↦
-          let P : ℕ → Type 0 = λ n. Contains (pair.1 ∷ seconds a pairs) n in
-          subst P (ap (λ (p : ℕ × ℕ). p.1) same) (contains_head pair.1 (seconds a pairs))
-      | inr later ↦ contains_tail pair.1 b (seconds a pairs) (rest later)
-    ]
-
-    from : (t : Bool) → ((t ≡ true) × (pair.0 ≡ a)) ⊎ ((t ≡ false) × (pair.0 ≢ a)) → (Contains pairs (a, b) → Contains (seconds a pairs) b) → Contains (if t then pair.1 ∷ seconds a pairs else seconds a pairs) b
-    from true d rest = there rest
-    from false (inl d) rest = let clash : false ≡ true = d.0 in absurd (cc)
-    from false (inr d) rest = rest (here c d.1)
-
-pub seconds_from : (a b : ℕ) (pairs : List (ℕ × ℕ)) → Contains (seconds a pairs) b → Contains pairs (a, b)
-seconds_from a b [] c = absurd (contains_nil b c)
-seconds_from a b (pair ∷ pairs) c = from (pair.0 == a) (eqb_tells pair.0 a) c (λ later. seconds_from a b pairs later)
-  where
-    from : (t : Bool) → ((t ≡ true) × (pair.0 ≡ a)) ⊎ ((t ≡ false) × (pair.0 ≢ a)) → Contains (if t then pair.1 ∷ seconds a pairs else seconds a pairs) b → (Contains (seconds a pairs) b → Contains pairs (a, b)) → Contains (pair ∷ pairs) (a, b)
-    from true (inr d) has rest = let clash : true ≡ false = d.0 in absurd (cc)
-    from true (inl d) has rest = elim (contains_cases pair.1 b (seconds a pairs) has) [
-      | inl same ↦
-          let Q : ℕ → Type 0 = λ n. Contains ((pair.0, pair.1) ∷ pairs) (pair.0, n) in
-          let R : ℕ → Type 0 = λ n. Contains ((pair.0, pair.1) ∷ pairs) (n, b) in
-          subst R d.1 (subst Q same (contains_head (pair.0, pair.1) pairs))
-      | inr later ↦ contains_tail pair (a, b) pairs (rest later)
-    ]
-    from false d has rest = contains_tail pair (a, b) pairs (rest has)
 
 -- with more pairs of its point, a state has more edges
 pub with_more : (f : Context) (less more : List (ℕ × ℕ)) (at : ℕ) → ((to : ℕ) → Contains less (at, to) → Contains more (at, to)) → (state : Parts) (e : ℕ × Parts) → Contains (edges_with f less at state) e → Contains (edges_with f more at state) e

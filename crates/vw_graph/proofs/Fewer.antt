@@ -8,7 +8,8 @@ use Rattle.vw_state.specs.Laws.{tick_limit}
 use Rattle.vw_graph.specs.Course.{IsNextRound}
 use Rattle.vw_graph.specs.Jumps.{pairs_of}
 use Rattle.vw_graph.specs.Rounds.{WithinRounds, first_begins}
-use Rattle.vw_graph.proofs.Distinct.{distinct, are_distinct, distinct_has, distinct_from, distinct_fewer, distinct_at_most}
+use Rattle.vw_graph.proofs.Distinct.{distinct, are_distinct, distinct_has, distinct_from, distinct_at_most}
+use Rattle.vw_graph.proofs.Members.{distinct_fewer}
 
 -- the pairs of the function's points that are not among those of the round
 abbrev pub left : Context → List (Option JumpTable) → ℕ

@@ -9,10 +9,10 @@ use Rattle.vw_solver.proofs.Waiting.{Waits, waits_insert, waits_still, waits_fro
 use Rattle.vw_state.specs.declared.jumps.JumpTable.{JumpTable}
 use Rattle.vw_state.specs.Context.{Context}
 use Rattle.vw_graph.specs.Jumps.{slot_at, LeadsFurther, LeadsNoFurther, AreNew}
-use Rattle.vw_graph.proofs.Members.{contains_head, contains_tail, contains_nil, contains_cases}
+use Rattle.vw_graph.proofs.Members.{contains_head, contains_tail, contains_none, contains_cases}
 
 waits_of : (xs : List ℕ) (p : ℕ) → Contains xs p → Waits xs p
-waits_of [] p c = absurd (contains_nil p c)
+waits_of [] p c = absurd (contains_none p c)
 waits_of (x ∷ xs) p c = elim (contains_cases x p xs c) [ inl same ↦ inl same | inr later ↦ inr (waits_of xs p later) ]
 
 contains_of : (xs : List ℕ) (p : ℕ) → Waits xs p → Contains xs p
@@ -32,12 +32,12 @@ insert_apart x k xs Greater new apart rest = (
 )
 
 insert_distinct : (xs : List ℕ) (k : ℕ) → (Contains xs k → ⊥) → AreDistinct xs → AreDistinct (insert_key nat_cmp xs k)
-insert_distinct [] k new apart = (λ c. contains_nil k c, tt)
+insert_distinct [] k new apart = (λ c. contains_none k c, tt)
 insert_distinct (x ∷ xs) k new apart = insert_apart x k xs (nat_cmp k x) new apart (insert_distinct xs k (λ c. new (contains_tail x k xs c)) apart.1)
 
 module _ (f : Context) (before now : List (Option JumpTable)) where
   pub none_new : AreNew f before now 0 []
-  none_new = record { distinct = tt; new = λ at c. absurd (contains_nil at c); others = λ at less. absurd (omega (arith, less)) }
+  none_new = record { distinct = tt; new = λ at c. absurd (contains_none at c); others = λ at less. absurd (omega (arith, less)) }
 
   module _ (point : ℕ) (points : List ℕ) (are : AreNew f before now point points) where
     pub no_further_point : LeadsNoFurther f (slot_at before point) (slot_at now point) → AreNew f before now (point + 1) points

@@ -15,7 +15,7 @@ use Rattle.vw_state.specs.declared.site.Site.{Site}
 use Rattle.vw_state.specs.Context.{Context, IsSite}
 use Rattle.vw_state.specs.Post.{entry_target, with_target, targets_from}
 use Rattle.vw_graph.specs.Jumps.{LeadsTo, AreMarked, LeadsBeyond, LeadsFurther, LeadsNoFurther}
-use Rattle.vw_graph.proofs.Members.{contains_head, contains_tail, contains_nil, contains_cases}
+use Rattle.vw_graph.proofs.Members.{contains_head, contains_tail, contains_none, contains_cases}
 
 -- ---- one entry
 
@@ -74,7 +74,7 @@ targets_have f table from (suc count) i to le less e = elim (cases_eq i from) [
 ]
 
 targets_are : (f : Context) (table : JumpTable) (from count to : ℕ) → Contains (targets_from f table from count) to → LeadsBelow f table (from + count) to
-targets_are f table from zero to c = absurd (contains_nil to c)
+targets_are f table from zero to c = absurd (contains_none to c)
 targets_are f table from (suc count) to c = elim (with_from (entry_target f table from) (targets_from f table (suc from) count) to c) [
   | inl e ↦ record { entry = from; less = omega arith; leads = e }
   | inr later ↦ let r = targets_are f table (suc from) count to later in record { entry = r.entry; less = omega (arith, r.less); leads = r.leads }
@@ -88,7 +88,7 @@ leads_are f table to c = let r = targets_are f table 0 table.count to c in recor
 
 -- tables lead to bytes of the function
 pub leads_inside : (f : Context) (slot : Option JumpTable) (to : ℕ) → LeadsTo f slot to → to < f.size
-leads_inside f None to c = absurd (contains_nil to c)
+leads_inside f None to c = absurd (contains_none to c)
 leads_inside f (Some table) to c = let r = leads_are f table to c in target_inside f.image table.base r.entry f.entry f.size to r.leads
 
 -- ---- marks
@@ -136,7 +136,7 @@ all_marked f table mark old new are = record {
 }
 
 pub nothing_marked : (f : Context) (mark : ℕ) (marks : List ℕ) → AreMarked f None mark marks marks
-nothing_marked f mark marks = record { there = λ to leads. absurd (contains_nil to leads); others = λ to. inr refl }
+nothing_marked f mark marks = record { there = λ to leads. absurd (contains_none to leads); others = λ to. inr refl }
 
 -- no mark is above the one that was set last
 pub marks_at_most : (f : Context) (slot : Option JumpTable) (mark : ℕ) (old new : List ℕ) → AreMarked f slot mark old new → ((point : ℕ) → mark_at old point < mark) → (point : ℕ) → mark_at new point ≤ mark

@@ -27,12 +27,12 @@ use Rattle.vw_graph.specs.Jumps.{slot_at, pairs_of, AreSame, JumpsBy, AreSlots, 
 use Rattle.vw_graph.specs.Rounds.{IsRounds, IsBegun, first_begins, next_begins, WithinRounds}
 use Rattle.vw_graph.specs.Solved.{gather, NoneStops, StopsFirst}
 use Rattle.vw_graph.specs.Walks.{AllFitIn}
-use Rattle.vw_graph.proofs.Distinct.{distinct, are_distinct, distinct_has, distinct_from, distinct_fewer}
+use Rattle.vw_graph.proofs.Distinct.{distinct, are_distinct, distinct_has, distinct_from}
 use Rattle.vw_graph.proofs.EdgesMore.{with_more}
 use Rattle.vw_graph.proofs.Gathered.{gathered, gather_all}
 use Rattle.vw_graph.proofs.Leads.{leads_inside}
 use Rattle.vw_graph.proofs.Least.{Are, Only, is_least}
-use Rattle.vw_graph.proofs.Members.{contains_nil, all_from_contains}
+use Rattle.vw_graph.proofs.Members.{contains_none, distinct_fewer, all_from_contains}
 use Rattle.vw_graph.proofs.PairsOf.{leads_from_pair, pair_from_leads}
 use Rattle.vw_graph.proofs.Restart.{restart}
 
@@ -101,7 +101,7 @@ within_rounds f pairs number old new begun few counted =
     record { pairs = pairs; begun = begun; within = omega (arith, more, counted) }
 
 some_table : (f : Context) (slot : Option JumpTable) (to : ℕ) → LeadsTo f slot to → (table : JumpTable) × (slot ≡ Some table)
-some_table f None to leads = absurd (contains_nil to leads)
+some_table f None to leads = absurd (contains_none to leads)
 some_table f (Some table) to leads = (table, refl)
 
 -- ---- the states of a round
@@ -189,7 +189,7 @@ module _ (stay : Stay) (few : Few) (f : Context) (bytes : IsBytes (code_of f)) (
         let back : (at to : ℕ) → JumpsTo f (gather 0 table) at to → Contains now.pairs (at, to) = λ at to jump.
         let pair = pair_of at to jump in
         elim (nothing.others at (below_end at to pair)) [
-          | inl waits ↦ absurd (contains_nil at waits)
+          | inl waits ↦ absurd (contains_none at waits)
           | inr each ↦ now.same.back at to (no_further at to each pair)
         ]
         in

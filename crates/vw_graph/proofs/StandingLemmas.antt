@@ -8,7 +8,7 @@ use Rattle.vw_lattice.specs.Order.{IsJoin}
 use Rattle.vw_solver.specs.Solution.{state_at}
 use Rattle.vw_solver.specs.Standing.{reaches, joins, IsTable, at_first, at_visit, at_landing, at_skip, IsStanding}
 use Rattle.vw_solver.specs.Tables.{table_sum, is_empty, empties}
-use Rattle.vw_graph.proofs.Members.{contains_head, contains_tail, contains_nil}
+use Rattle.vw_graph.proofs.Members.{contains_head, contains_tail, contains_none}
 use Rattle.vw_solver.proofs.Search.{same_state, state_within, table_sum_set, at_same, at_other}
 
 -- ---- the points without a state
@@ -71,7 +71,7 @@ module _ {S : Type 0} (below : S → S → Type 0) (is_valid : S → Type 0) (is
       record {
         length_is = length-set empty start (Some first) ∙ all;
         good = set_states is_good empty start first (omega (arith, all, start_in)) keeps.first_good (λ p s at. absurd (none_in S points p s at));
-        next = λ e c. absurd (contains_nil e c);
+        next = λ e c. absurd (contains_none e c);
       }
   table_good table some (at_visit t pending some' point state is at each) =
       let before = table_good table pending is in
@@ -123,7 +123,7 @@ module _ {S : Type 0} (below : S → S → Type 0) (is_valid : S → Type 0) (is
         let sum : step * (empties (set empty start (Some first)) + 1) ≡ step * points = ap (λ (n : ℕ). step * n) (empties_reach empty start first within vacant ∙ empties_none S 0 points) in
         record {
           sized = set_states (λ p s. size s + step + step * empties (set empty start (Some first)) ≤ size first + step * points) empty start first within (omega (arith, sum)) (λ p s at. absurd (none_in S points p s at));
-          next = λ e c. absurd (contains_nil e c);
+          next = λ e c. absurd (contains_none e c);
         }
     table_sized table some (at_visit t pending some' point state is at each) =
         let before = table_sized table pending is in

@@ -2,35 +2,21 @@ ghost use Rattle.std.specs.Prelude.{◌≡◌, ◌≤◌, length, Contains, IfOk
 ghost use Rattle.vw_layout.specs.declared.functions.Function.{Function};
 ghost use Rattle.vw_layout.specs.Layout.{IsWhole};
 ghost use Rattle.vw_state.specs.Code.{code_at};
-ghost use Rattle.vw_state.specs.Context.{Context, context_of, IsSite};
-ghost use Rattle.vw_state.specs.Post.{edges_at};
+ghost use Rattle.vw_state.specs.Context.{context_of, IsSite};
 ghost use Rattle.vw_recheck.specs.Places.{PointsAscend, IsLowestAt, IsLowestIn};
 
 use crate::landing::{all_land, lands, points_ascend};
 use std::alloc::Global;
 use vw_bits::OutOfMemory;
-use vw_checks::check_of_code;
-use vw_domain::{State, entry_state};
+use vw_checks::{check_of_code, check_of_insn};
+use vw_domain::entry_state;
 use vw_layout::Module;
+use vw_lift::lift;
 use vw_solver::Edges;
-use vw_state::{PointState, Site, code_is_short, codes_are_bytes, edges_are_post, post_of_code};
-
-// The edges that leave a point of a table.
-fn edges_of(
-    alloc: Global,
-    site: &Site,
-    code: &[u8],
-    point: &PointState,
-) -> Result<Edges<State>, OutOfMemory>
-    requires few { length site.now.tables.now ≤ 64 }
-    requires code { code.now ≡ code_at site.now.image.now site.now.entry site.now.size }
-    ensures { (f : Context) → IsSite f site.now
-        → IfOk result (λ edges. edges ≡ edges_at f point.now.at point.now.state) }
-{
-    let mut edges = Edges::new(alloc);
-    post_of_code(alloc, site, code, point.at, &point.state, &mut edges)?;
-    Ok(edges)
-}
+use vw_state::{
+    PointInsn, PointState, Site, code_is_short, codes_are_bytes, edges_are_post, instruction_at,
+    post_of_insn,
+};
 
 // The lowest number of what fails at a point of a table.
 fn failing_at(
@@ -50,11 +36,25 @@ fn failing_at(
         → IfOk result
         (IsLowestAt (context_of loaded.now f) states.now point.now.at point.now.state) }
 {
-    let edges = edges_of(alloc, site, code, point)?;
+    edges_are_post();
+    codes_are_bytes(loaded);
+    let Some((insn, len)) = instruction_at(code, point.at) else {
+        let lacking = check_of_code(alloc, loaded, site, code, point.at, &point.state)?;
+        return Ok(lacking);
+    };
+    let stmts = lift(alloc, &insn, 0, 0);
+    let here = PointInsn {
+        at: point.at,
+        len,
+        insn: &insn,
+        stmts: stmts.as_slice(),
+    };
+    let mut edges = Edges::new(alloc);
+    post_of_insn(site, code, &here, &point.state, &mut edges)?;
     if !all_land(site, states, edges.as_slice()) {
         return Ok(Some(0));
     }
-    let number = check_of_code(alloc, loaded, site, code, point.at, &point.state)?;
+    let number = check_of_insn(loaded, site, code, &here, &point.state)?;
     Ok(number)
 }
 

@@ -4,7 +4,7 @@ mod Sizes
 mod Flows
 mod Alike
 pub mod RoundLists
-mod RoundChecks
+pub mod RoundChecks
 mod RoundEdges
 mod RoundLemmas
 pub mod Sites

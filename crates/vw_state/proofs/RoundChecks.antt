@@ -69,7 +69,7 @@ module _ (f : Context) where
 
   -- ---- forms below
 
-  greater_leaves : (next : ℕ) (low high : Abstract) (fl : Flow) → IsBelow low high → Leaves f next low fl → Leaves f next high fl
+  pub greater_leaves : (next : ℕ) (low high : Abstract) (fl : Flow) → IsBelow low high → Leaves f next low fl → Leaves f next high fl
   greater_leaves next low high (flow.Jump rel) below leave = leave
   greater_leaves next low high (flow.Branch cond rel) below leave = leave
   greater_leaves next low high (flow.JumpReg src) below leave = λ stays. leave (lower_stays (value_of low (index_of src)) (value_of high (index_of src)) (below.values (RegisterOf (index_of src))) stays)

@@ -4,6 +4,10 @@ use Rattle.vw_image.specs.Image.{Contents}
 use Rattle.vw_image.specs.Words.{bytes_at}
 use Rattle.vw_insn.specs.declared.instruction.Insn.{Insn}
 use Rattle.vw_rows.specs.Spelling.{Spells}
+use Rattle.std.specs.List.{AllByRecursion}
+use Rattle.vw_stmt.specs.Lifted.{IsLifted}
+use Rattle.vw_lift.specs.Lifted.{lifted}
+use Rattle.vw_state.specs.declared.edges.PointInsn.{PointInsn}
 
 -- The bytes of the file for `size` bytes from an entry on. There are none where these are not in the file
 -- part of one segment.
@@ -24,3 +28,9 @@ pub record StandsAlone (code : List ℕ) (at : ℕ) (i : Insn) (len : ℕ) : Typ
   pub begins : BeginsAt code at i len
   pub some : 0 < len
   pub alone : (other : Insn) (other_len : ℕ) → BeginsAt code at other other_len → (other ≡ i) × (other_len ≡ len)
+
+-- It begins at its point of this code, and its statements are those that it is lifted to.
+pub record IsPointInsn (code : List ℕ) (p : PointInsn) : Type 0 where
+  pub stands : StandsAlone code p.at p.insn.now p.len
+  pub lifted : p.stmts.now ≡ lifted p.insn.now
+  pub fields : AllByRecursion IsLifted p.stmts.now

@@ -12,7 +12,7 @@ ghost use Rattle.vw_domain.specs.Addresses.{value_of};
 ghost use Rattle.vw_domain.specs.Operands.{index_of};
 ghost use Rattle.vw_domain.specs.State.{Fits};
 ghost use Rattle.vw_state.specs.Checks.{Leaves};
-ghost use Rattle.vw_state.specs.Code.{code_at, NothingAt, StandsAlone};
+ghost use Rattle.vw_state.specs.Code.{code_at, NothingAt, StandsAlone, IsPointInsn};
 ghost use Rattle.vw_state.specs.Context.{Context, IsSite};
 ghost use Rattle.vw_state.specs.Post.{relative_point, inside, jump_table, table_targets, form_behind, seconds, edges_with, edges_at, Post};
 
@@ -32,6 +32,19 @@ use vw_lattice::Lattice;
 use vw_lift::lift;
 use vw_solver::Edges;
 use vw_stmt::{Flow, Stmt};
+
+/// The instruction that begins at a point of a function's code, with its statements.
+#[derive(Clone, Copy)]
+pub struct PointInsn<'a> {
+    /// The point, in bytes from the function's entry.
+    pub at: u32,
+    /// How many bytes the instruction has.
+    pub len: u32,
+    /// The instruction.
+    pub insn: &'a Insn,
+    /// Its statements, as `lift` gives them.
+    pub stmts: &'a [Stmt],
+}
 
 /// Appends to `out` the edges that leave a point of a function with a state, each with the state that it carries.
 /// Control goes on to the next instruction, also where this is the function's end; from a direct jump to its target,
@@ -80,11 +93,37 @@ pub fn post_of_code(
     let Some((insn, len)) = instruction_at(code, at) else {
         return Ok(());
     };
-    let next = at + len;
     let stmts = lift(alloc, &insn, 0, 0);
-    let flow = last_flow(stmts.as_slice());
+    let point = PointInsn {
+        at,
+        len,
+        insn: &insn,
+        stmts: stmts.as_slice(),
+    };
+    post_of_insn(site, code, &point, state, out)
+}
+
+/// The same, where the instruction at the point is at hand. Beyond the edges and their states it takes no memory.
+pub fn post_of_insn(
+    site: &Site,
+    code: &[u8],
+    point: &PointInsn,
+    state: &State,
+    out: &mut Edges<State>,
+) -> Result<(), OutOfMemory>
+    requires code { code.now ≡ code_at site.now.image.now site.now.entry site.now.size }
+    requires few { length site.now.tables.now ≤ 64 }
+    requires point { IsPointInsn code.now point.now }
+    ensures edges { (f : Context) → IsSite f site.now
+        → OnOk result (out.new ≡ out.old ++ edges_at f point.now.at state.now) }
+    ensures err { OnErr result (out.new ≡ out.old) }
+{
+    edges_are_post();
+    let _code = as_bytes(code);
+    let next = point.at + point.len;
+    let flow = last_flow(point.stmts);
     let mut behind = state.copy()?;
-    go_behind(site, next, stmts.as_slice(), &mut behind)?;
+    go_behind(site, next, point.stmts, &mut behind)?;
     let table = table_told(flow, &behind);
     append_flow(site, next, flow, table, behind, out)
 }

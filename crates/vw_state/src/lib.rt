@@ -27,8 +27,8 @@ mod tables;
 
 pub use bounds::bounds_of;
 pub use edges::{
-    direct_target, flow_of, instruction_at, leaves_directly, leaves_function, post, post_of_code,
-    post_with, state_behind,
+    PointInsn, direct_target, flow_of, instruction_at, leaves_directly, leaves_function, post,
+    post_of_code, post_of_insn, post_with, state_behind,
 };
 pub use jumps::{JumpTable, jump_table, stays_inside};
 pub use laws::{

@@ -1,13 +1,21 @@
-use Rattle.std.proofs.Common.{◌≡◌, ◌∙◌, List, subst}
+use Rattle.std.proofs.Common.{◌≡◌, ◌∙◌, ◌+◌, ℕ, List, subst}
 use Rattle.std.specs.Prelude.{IfOk}
 use Rattle.vw_stmt.specs.declared.statement.Stmt.{Stmt}
-use Rattle.vw_lift.specs.Lifted.{lifted}
 use Rattle.vw_domain.specs.Abstract.{abstract_of}
-use Rattle.vw_checks.specs.Checks.{IsLowestOf, StmtsFail}
+use Rattle.vw_state.specs.Code.{StandsAlone}
+use Rattle.vw_state.specs.Context.{code_of}
+use Rattle.vw_checks.specs.Checks.{IsLowestOf, StmtsFail, InsnFails, LowestFailing}
+use Rattle.vw_state.proofs.Sites.{site_code}
+use Rattle.vw_checks.proofs.Points.{as_point, ok_as}
 use Rattle.vw_checks.proofs.checks.failing_insn.Goals as goal
 
 pub returns : goal.returns
 returns c = λ f of is.
-    let i = c.args.insn.now in
-    let same : c.as_slice.result.now ≡ lifted i = c.as_slice.ensures.items ∙ c.lift-stmts.ensures.list in
-    subst (λ (xs : List Stmt). IfOk c.failing_stmts.result (IsLowestOf (StmtsFail f c.args.next (abstract_of c.args.state.now) xs))) same (c.failing_stmts.ensures f of is)
+    let at = c.args.point.now.at in
+    let next = at + c.args.point.now.len in
+    let i = c.args.point.now.insn.now in
+    let state = c.args.state.now in
+    let code : c.args.code.now ≡ code_of f = c.requires.code ∙ site_code f c.args.site.now is in
+    let stands = subst (λ (xs : List ℕ). StandsAlone xs at i c.args.point.now.len) code c.requires.point.stands in
+    ok_as (IsLowestOf (InsnFails f next state i)) (LowestFailing f at state) (as_point f at state i c.args.point.now.len stands) c.failing_stmts.result
+    (subst (λ (xs : List Stmt). IfOk c.failing_stmts.result (IsLowestOf (StmtsFail f next (abstract_of state) xs))) c.requires.point.lifted (c.failing_stmts.ensures f of is))

@@ -13,5 +13,5 @@ returns-clause-code c = λ f at low high below passes fails. passes (code_rises 
 pub returns-clause-jump : goal.returns-clause-jump
 returns-clause-jump c = λ f at low high bytes sites is_low is_high below passes fails.
     passes
-    (first_rise c.statements_are_sound.ensures.rise c.statements_are_sound.ensures.forms c.transfer_checks_rise.ensures.values c.states_have_forms.ensures.forms c.forms_tell_states.ensures.order c.statements_have_displacements.ensures f at low high bytes sites is_low is_high below 2
+    (first_rise c.statements_are_sound.ensures.rise c.statements_are_sound.ensures.forms c.states_have_forms.ensures.forms c.forms_tell_states.ensures.order c.statements_have_displacements.ensures f at low high bytes sites is_low is_high below 2
     (omega arith) fails)

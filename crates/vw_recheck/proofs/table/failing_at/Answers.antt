@@ -1,16 +1,34 @@
-use Rattle.std.proofs.Common.{◌∙◌, sym, subst, refl, ℕ, List}
+use Rattle.std.proofs.Common.{◌≡◌, ◌∙◌, ◌++◌, ℕ, List, [], ap, sym, subst, refl}
 use Rattle.std.specs.List.{All}
+use Rattle.std.proofs.lemmas.List.Elements.{All-nil}
 use Rattle.vw_domain.specs.declared.parts.Parts.{Parts}
-use Rattle.vw_state.specs.Context.{context_of}
+use Rattle.vw_state.specs.Code.{NothingAt}
+use Rattle.vw_state.specs.Context.{context_of, code_of}
+use Rattle.vw_state.specs.Post.{destinations, edges_at, nothing}
 use Rattle.vw_state.specs.Solution.{Lands}
+use Rattle.vw_state.proofs.Sites.{site_code}
 use Rattle.vw_recheck.proofs.Points.{false_true, edge_out, edges_land}
 use Rattle.vw_recheck.proofs.table.failing_at.Goals as goal
+
+pub returns-in_default : goal.returns-in_default
+returns-in_default c = λ f listed is.
+    let context = context_of c.args.loaded.now f in
+    let states = c.args.states.now in
+    let at = c.args.point.now.at in
+    let state = c.args.point.now.state in
+    let code = c.requires.code ∙ site_code context c.args.site.now is in
+    let none : NothingAt c.args.code.now at = rw c.in_default.is at c.instruction_at.ensures.none in
+    let edges = c.edges_are_post.ensures.only context (destinations context) at state [] (c.codes_are_bytes.ensures f) (nothing (subst (λ (xs : List ℕ). NothingAt xs at) code none)) in
+    edges_land context states at state c.in_ok-lacking.lacking
+    (subst (λ (es : List (ℕ × Parts)). All (Lands context states) es) edges (All-nil (Lands context states)))
+    (c.in_ok-lacking.ensures f listed is)
 
 pub returns-then-not-all_land : goal.returns-then-not-all_land
 returns-then-not-all_land c = λ f listed is.
     let context = context_of c.args.loaded.now f in
     let states = c.args.states.now in
-    let same = c.as_slice.ensures ∙ c.in_ok-edges.ensures context is in
+    let edges = edges_at context c.args.point.now.at c.args.point.now.state in
+    let same = c.as_slice-2.ensures ∙ (c.in_ok-post_of_insn.ensures.edges context is ∙ ap (λ (front : List (ℕ × Parts)). front ++ edges) c.new-edges.ensures) in
     edge_out context states c.args.point.now.at c.args.point.now.state
     (λ all. false_true ((c.if-not-all_land.ensures context is).1 (subst (λ (es : List (ℕ × Parts)). All (Lands context states) es) (sym same) all)))
 
@@ -18,7 +36,8 @@ pub returns : goal.returns
 returns c = λ f listed is.
     let context = context_of c.args.loaded.now f in
     let states = c.args.states.now in
-    let same = c.as_slice.ensures ∙ c.in_ok-edges.ensures context is in
+    let edges = edges_at context c.args.point.now.at c.args.point.now.state in
+    let same = c.as_slice-2.ensures ∙ (c.in_ok-post_of_insn.ensures.edges context is ∙ ap (λ (front : List (ℕ × Parts)). front ++ edges) c.new-edges.ensures) in
     edges_land context states c.args.point.now.at c.args.point.now.state c.in_ok-number.number
     (subst (λ (es : List (ℕ × Parts)). All (Lands context states) es) same ((c.if-not-all_land.ensures context is).0 refl))
     (c.in_ok-number.ensures f listed is)

@@ -9,22 +9,22 @@ use Rattle.vw_state.specs.Context.{code_of}
 use Rattle.vw_state.specs.Post.{table_targets, destinations, form_behind, begins}
 use Rattle.vw_state.proofs.EdgeStates.{read_edges}
 use Rattle.vw_state.proofs.Sites.{site_code, code_size}
-use Rattle.vw_state.proofs.edges.post_of_code.Goals as goal
+use Rattle.vw_state.proofs.edges.post_of_insn.Goals as goal
 
 pub returns-clause-edges : goal.returns-clause-edges
 returns-clause-edges c = λ f is.
     let targets : Var → Abstract → List ℕ = destinations f in
-    let at = c.args.at in
+    let at = c.args.point.now.at in
     let state = c.args.state.now in
-    let i = c.in-Some.insn in
-    let next = at + c.in-Some.len in
-    let code : c.as_bytes-code.result.now ≡ code_of f = c.as_bytes-code.ensures.same ∙ (c.requires.code ∙ site_code f c.args.site.now is) in
-    let bytes : IsBytes (code_of f) = subst IsBytes code c.as_bytes-code.ensures.bytes in
-    let stands = subst (λ (b : List ℕ). BeginsAt b at i c.in-Some.len) code c.in-Some.ensures.found.begins in
-    let edges = c.edges_are_post.ensures.only f targets at state _ bytes (begins i c.in-Some.len stands) in
-    let flow : c.last_flow-flow.result ≡ flow_of i = c.last_flow-flow.ensures (steps i) (flow_of i) (c.as_slice.ensures.items ∙ c.lift-stmts.ensures.list) in
+    let i = c.args.point.now.insn.now in
+    let next = at + c.args.point.now.len in
+    let code : c.args.code.now ≡ code_of f = c.requires.code ∙ site_code f c.args.site.now is in
+    let bytes : IsBytes (code_of f) = subst IsBytes (c.as_bytes-code.ensures.same ∙ code) c.as_bytes-code.ensures.bytes in
+    let stands = subst (λ (b : List ℕ). BeginsAt b at i c.args.point.now.len) code c.requires.point.stands.begins in
+    let edges = c.edges_are_post.ensures.only f targets at state _ bytes (begins i c.args.point.now.len stands) in
+    let flow : c.last_flow-flow.result ≡ flow_of i = c.last_flow-flow.ensures (steps i) (flow_of i) c.requires.point.lifted in
     let behind : abstract_of c.go_behind.new.state ≡ form_behind f next i state =
-    c.in_ok-go_behind.ensures.form f i is (c.as_slice-2.ensures.items ∙ c.lift-stmts.ensures.list) ∙ ap (form_behind f next i) c.in_ok-behind.ensures in
+    c.in_ok-go_behind.ensures.form f i is c.requires.point.lifted ∙ ap (form_behind f next i) c.in_ok-behind.ensures in
     on_ok_weaker c.append_flow.result
     (λ e. read_edges f targets next i state (abstract_of c.go_behind.new.state) c.last_flow-flow.result c.args.out.now c.append_flow.new.out _ behind flow edges e)
     (c.append_flow.ensures.ok f targets is (λ src jumps. ap (table_targets f) (sym (c.table_told-table.ensures src jumps))))
@@ -32,6 +32,5 @@ returns-clause-edges c = λ f is.
 pub overflow_add-next : goal.overflow_add-next
 overflow_add-next c =
     let site = c.args.site.now in
-    let same = c.as_bytes-code.ensures.same ∙ c.requires.code in
-    let short : length c.as_bytes-code.result.now ≤ site.size = subst (λ (code : List ℕ). length code ≤ site.size) (sym same) (code_size site.image.now site.entry site.size) in
-    omega (arith, short, c.in-Some.ensures.found.begins.inside)
+    let short : length c.args.code.now ≤ site.size = subst (λ (code : List ℕ). length code ≤ site.size) (sym c.requires.code) (code_size site.image.now site.entry site.size) in
+    omega (arith, short, c.requires.point.stands.begins.inside)
