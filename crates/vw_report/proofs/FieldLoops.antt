@@ -1,8 +1,10 @@
 -- A loop over the registers reads what the item of fields reads.
-use Rattle.std.proofs.Common.{◌≡◌, ℕ, suc, ◌+◌, ◌<◌, List, [], ◌∷◌, ◌++◌, drop, map, Option, Some, None, refl, sym, ap, ◌∙◌, arith}
-use Rattle.std.proofs.lemmas.List.{append-nil}
+use Rattle.std.proofs.Common.{◌≡◌, ℕ, suc, ◌+◌, ◌<◌, List, [], ◌∷◌, ◌++◌, length, set, take, drop, map, Option, Some, None, refl, sym, ap, ◌∙◌, arith}
+use Rattle.std.proofs.lemmas.List.{append-nil, take_all, take_more_set}
 use Rattle.vw_report.specs.StateText.{register_mark, registers}
-use Rattle.vw_report.specs.Items.{Item, after, maybe_at, read_fields, read_maybe, with_first, ◌>>=◌}
+use Rattle.vw_values.specs.declared.value.Value.{Value}
+use Rattle.vw_report.specs.Items.{Item, read_fields, read_maybe, with_first, ◌>>=◌}
+use Rattle.vw_report.specs.Grammar.{or_any, value_or_any}
 use Rattle.vw_report.proofs.Marks.{mark_at}
 use Rattle.vw_report.proofs.ItemLoops.{with_front, regroup}
 
@@ -26,23 +28,35 @@ fields_front to letter i r xs b x t lt e =
     ∙ ap (with_front xs) (seen_first to x (read_fields (drop (suc r) (map (register_mark letter) registers)) i t))
     ∙ regroup xs (to x) (seen_fields to (read_fields (drop (suc r) (map (register_mark letter) registers)) i t)))
 
-pub fields_none : {A B : Type 0} (to : Option A → B) (letter : ℕ) (i : Item A) (r : ℕ) (xs : List B) (b : List ℕ) → r < 16 → after (register_mark letter r) b ≡ None
-    → with_front (xs ++ to None ∷ []) (seen_fields to (read_fields (drop (r + 1) (map (register_mark letter) registers)) i b)) ≡ with_front xs (seen_fields to (read_fields (drop r (map (register_mark letter) registers)) i b))
-fields_none to letter i r xs b lt e = fields_front to letter i r xs b None b lt (ap (maybe_at i b) e)
-
-pub fields_some : {A B : Type 0} (to : Option A → B) (letter : ℕ) (i : Item A) (r : ℕ) (xs : List B) (b t : List ℕ) (a : A) (u : List ℕ) → r < 16 → after (register_mark letter r) b ≡ Some t → i.read t ≡ Some (a, u)
-    → with_front (xs ++ to (Some a) ∷ []) (seen_fields to (read_fields (drop (r + 1) (map (register_mark letter) registers)) i u)) ≡ with_front xs (seen_fields to (read_fields (drop r (map (register_mark letter) registers)) i b))
-fields_some to letter i r xs b t a u lt e f = fields_front to letter i r xs b (Some a) u lt (ap (maybe_at i b) e ∙ ap (λ o. o >>= λ x. Some (Some x.0, x.1)) f)
-
-pub fields_bad : {A B : Type 0} (to : Option A → B) (letter : ℕ) (i : Item A) (r : ℕ) (xs : List B) (b t : List ℕ) → r < 16 → after (register_mark letter r) b ≡ Some t → i.read t ≡ None
+pub fields_bad : {A B : Type 0} (to : Option A → B) (letter : ℕ) (i : Item A) (r : ℕ) (xs : List B) (b : List ℕ) → r < 16 → read_maybe (register_mark letter r) i b ≡ None
     → with_front xs (seen_fields to (read_fields (drop r (map (register_mark letter) registers)) i b)) ≡ None
-fields_bad to letter i r xs b t lt e f =
+fields_bad to letter i r xs b lt e =
     ap (λ ms. with_front xs (seen_fields to (read_fields ms i b))) (mark_at letter r lt)
-    ∙ ap (λ o. with_front xs (seen_fields to (o >>= λ y. with_first y.0 (read_fields (drop (suc r) (map (register_mark letter) registers)) i y.1))))
-    (ap (maybe_at i b) e ∙ ap (λ o. o >>= λ x. Some (Some x.0, x.1)) f)
+    ∙ ap (λ o. with_front xs (seen_fields to (o >>= λ y. with_first y.0 (read_fields (drop (suc r) (map (register_mark letter) registers)) i y.1)))) e
 
-pub fields_end : {A B : Type 0} (to : Option A → B) (letter : ℕ) (i : Item A) (xs : List B) (b : List ℕ) → with_front xs (seen_fields to (read_fields (drop 16 (map (register_mark letter) registers)) i b)) ≡ Some (xs, b)
-fields_end to letter i xs b = ap (λ y. Some (y, b)) (append-nil xs)
+pub value_some : (o : Option (Option Value × List ℕ)) (v : Value) (t : List ℕ) → value_or_any o ≡ Some (v, t) → (x : Option Value) × (o ≡ Some (x, t)) × (or_any x ≡ v)
+value_some None v t e = absurd cc
+value_some (Some x) v t e =
+    let p : (or_any x.0, x.1) ≡ (v, t) = cc in
+    (x.0, ap (λ (u : List ℕ). Some (x.0, u)) (ap (λ (y : Value × List ℕ). y.1) p), ap (λ (y : Value × List ℕ). y.0) p)
+
+pub value_none : (o : Option (Option Value × List ℕ)) → value_or_any o ≡ None → o ≡ None
+value_none None e = refl
+value_none (Some x) e = absurd cc
+
+pub fields_set : {A B : Type 0} (to : Option A → B) (letter : ℕ) (i : Item A) (r : ℕ) (xs : List B) (b : List ℕ) (x : Option A) (y : B) (t : List ℕ) → r < 16 → length xs ≡ 16 → read_maybe (register_mark letter r) i b ≡ Some (x, t) → to x ≡ y
+    → with_front (take (r + 1) (set xs r y)) (seen_fields to (read_fields (drop (r + 1) (map (register_mark letter) registers)) i t)) ≡ with_front (take r xs) (seen_fields to (read_fields (drop r (map (register_mark letter) registers)) i b))
+fields_set to letter i r xs b x y t lt len e is =
+    ap (λ ys. with_front ys (seen_fields to (read_fields (drop (r + 1) (map (register_mark letter) registers)) i t)))
+    (take_more_set xs r y (omega arith) ∙ ap (λ z. take r xs ++ z ∷ []) (sym is))
+    ∙ fields_front to letter i r (take r xs) b x t lt e
+
+pub fields_end : {A B : Type 0} (to : Option A → B) (letter : ℕ) (i : Item A) (r : ℕ) (xs : List B) (b : List ℕ) → r ≡ 16 → length xs ≡ 16
+    → with_front (take r xs) (seen_fields to (read_fields (drop r (map (register_mark letter) registers)) i b)) ≡ Some (xs, b)
+fields_end to letter i r xs b at len =
+    ap (λ ys. with_front ys (seen_fields to (read_fields (drop r (map (register_mark letter) registers)) i b))) (take_all r xs (omega arith))
+    ∙ ap (λ n. with_front xs (seen_fields to (read_fields (drop n (map (register_mark letter) registers)) i b))) at
+    ∙ ap (λ y. Some (y, b)) (append-nil xs)
 
 pub front_none : {A : Type 0} (o : Option (List A × List ℕ)) → with_front [] o ≡ o
 front_none None = refl

@@ -316,6 +316,11 @@ abbrev pub or_any : Option Value → Value
 or_any None = Any
 or_any (Some v) = v
 
+-- a register whose field is not there has any value
+abbrev pub value_or_any : Option (Option Value × List ℕ) → Option (Value × List ℕ)
+value_or_any None = None
+value_or_any (Some x) = Some (or_any x.0, x.1)
+
 unfoldable pub shown_value : Item Value
 shown_value = tested is_known value
 

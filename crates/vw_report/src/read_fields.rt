@@ -1,15 +1,15 @@
-ghost use Rattle.std.specs.Prelude.{◌≡◌, ◌<◌, ◌++◌, Option, Some, None, List};
-ghost use Rattle.vw_report.specs.Items.{Gives, Reads, after, with_first};
+ghost use Rattle.std.specs.Prelude.{◌≡◌, ◌<◌, ◌++◌, Option, Some, None, List, IfOk};
+ghost use Rattle.vw_report.specs.Items.{Gives, Reads, after, read_maybe, with_first};
 ghost use Rattle.vw_report.specs.ValueText.{register_text};
 ghost use Rattle.vw_report.specs.StateText.{register_mark};
-ghost use Rattle.vw_report.specs.Grammar.{class, classes, entry_item, equals, fact, further, offsets, parts, point_item, point_of, slots, values, written};
+ghost use Rattle.vw_report.specs.Grammar.{class, classes, entry_item, equals, fact, further, offsets, parts, point_item, point_of, shown_value, signed, slots, value_or_any, values, written};
 
 use crate::fail::Fail;
 use crate::print_values::register_name;
 use crate::read_numbers::{behind, hex8_at, hex16_at, number_at, signed_at};
 use crate::read_values::{compared_at, place_at, range_at, shown_value_at, slot_at};
 use std::alloc::Global;
-use vw_bits::List;
+use vw_bits::{List, OutOfMemory};
 use vw_domain::{Fact, Slot, StateParts};
 use vw_names::Spot;
 use vw_values::Value;
@@ -108,6 +108,13 @@ pub fn classes_at(alloc: Global, bytes: &[u8]) -> Result<(List<List<Spot>>, &[u8
     Ok((items, rest))
 }
 
+// The list of an array's items.
+fn list_of<T: Drop>(alloc: Global, items: [T; 16]) -> Result<List<T>, OutOfMemory>
+    ensures { IfOk result (λ list. list ≡ items) }
+{
+    Ok(List::from_vec(Vec::from_array(alloc, items)?))
+}
+
 #[tactic(auto, using(crate::proofs::AfterLemmas::after_append))]
 fn name_behind(r: u8, bytes: &[u8]) -> Option<&[u8]>
     ensures { Reads (λ rest. rest.now) result (after (register_text r ++ equals) bytes.now) }
@@ -132,46 +139,64 @@ fn field_behind(letter: u8, r: u8, bytes: &[u8]) -> Option<&[u8]>
     }
 }
 
+// The offset of a register, if its field is there.
+fn offset_at(r: u8, bytes: &[u8]) -> Option<(Option<i64>, &[u8])>
+    ensures { Reads (λ x. (x.0, x.1.now)) result (read_maybe (register_mark 111 r) signed bytes.now) }
+{
+    match field_behind(b'o', r, bytes) {
+        None => Some((None, bytes)),
+        Some(rest) => {
+            let (offset, rest) = signed_at(rest)?;
+            Some((Some(offset), rest))
+        }
+    }
+}
+
 #[tactic(auto, unfolding(crate::specs::Grammar::offsets))]
 pub fn offsets_at(alloc: Global, bytes: &[u8]) -> Result<(List<Option<i64>>, &[u8]), Fail>
     ensures { Gives (λ x. (x.0, x.1.now)) result (offsets.read bytes.now) }
 {
-    let mut items = List::new(alloc);
+    let mut items: [Option<i64>; 16] = [None; 16];
     let mut rest = bytes;
     for r in 0..16 {
-        match field_behind(b'o', r, rest) {
-            None => items.push(None)?,
-            Some(tail) => match signed_at(tail) {
-                None => return Err(Fail::Bad),
-                Some((item, tail)) => {
-                    items.push(Some(item))?;
-                    rest = tail;
-                }
-            },
+        match offset_at(r, rest) {
+            None => return Err(Fail::Bad),
+            Some((item, tail)) => {
+                items[r as usize] = item;
+                rest = tail;
+            }
         }
     }
-    Ok((items, rest))
+    Ok((list_of(alloc, items)?, rest))
+}
+
+// The value of a register, Any if its field is not there.
+fn register_value_at(r: u8, bytes: &[u8]) -> Option<(Value, &[u8])>
+    ensures { Reads (λ x. (x.0, x.1.now)) result
+        (value_or_any (read_maybe (register_mark 118 r) shown_value bytes.now)) }
+{
+    match field_behind(b'v', r, bytes) {
+        None => Some((Value::Any, bytes)),
+        Some(rest) => shown_value_at(rest),
+    }
 }
 
 #[tactic(auto, unfolding(crate::specs::Grammar::values))]
 pub fn values_at(alloc: Global, bytes: &[u8]) -> Result<(List<Value>, &[u8]), Fail>
     ensures { Gives (λ x. (x.0, x.1.now)) result (values.read bytes.now) }
 {
-    let mut items = List::new(alloc);
+    let mut items = [Value::Any; 16];
     let mut rest = bytes;
     for r in 0..16 {
-        match field_behind(b'v', r, rest) {
-            None => items.push(Value::Any)?,
-            Some(tail) => match shown_value_at(tail) {
-                None => return Err(Fail::Bad),
-                Some((item, tail)) => {
-                    items.push(item)?;
-                    rest = tail;
-                }
-            },
+        match register_value_at(r, rest) {
+            None => return Err(Fail::Bad),
+            Some((item, tail)) => {
+                items[r as usize] = item;
+                rest = tail;
+            }
         }
     }
-    Ok((items, rest))
+    Ok((list_of(alloc, items)?, rest))
 }
 
 #[tactic(auto, unfolding(crate::specs::Grammar::fact))]

@@ -1,8 +1,9 @@
-ghost use Rattle.std.specs.Prelude.{◌≡◌, ◌<◌, Option, Some, None, IfSome, length, drop};
+ghost use Rattle.std.specs.Prelude.{◌≡◌, ◌≢◌, ◌∷◌, [], List, ℕ, Option, Some, None};
 ghost use Rattle.vw_report.specs.Items.{Reads, first_word, nothing, maybe};
 ghost use Rattle.vw_report.specs.NumberItems.{number};
 ghost use Rattle.vw_report.specs.ValueText.{register_text};
 ghost use Rattle.vw_report.specs.StateText.{registers};
+ghost use Rattle.vw_report.specs.declared.kinds.Kind.TheVariants as kinds;
 ghost use Rattle.vw_report.specs.Grammar.{all_kinds, colon, compared, kind_name, mark, place, range, register, shown_value, size, slot, table, value, value_args, via, width, Breaks};
 
 use crate::kinds::Kind;
@@ -38,41 +39,55 @@ pub fn kind_word(kind: Kind) -> &'static [u8]
     }
 }
 
-static REGISTERS: [u8; 16] = [0, 1, 2, 3, 4, 5, 6, 7, 8, 9, 10, 11, 12, 13, 14, 15];
-
-static KINDS: [Kind; 18] = [
-    Kind::Any,
-    Kind::Num,
-    Kind::Const,
-    Kind::Below,
-    Kind::Low,
-    Kind::Both,
-    Kind::HeapBase,
-    Kind::HeapAddr,
-    Kind::Globals,
-    Kind::Entry,
-    Kind::Image,
-    Kind::Index16,
-    Kind::EntryPtr,
-    Kind::EntryTyped,
-    Kind::TagOf,
-    Kind::TableFn,
-    Kind::JumpOff,
-    Kind::JumpDest,
-];
-
-fn first_register<'a>(registers: &[u8], bytes: &'a [u8]) -> Option<(u8, &'a [u8])>
-    ensures { Reads (λ x. (x.0, x.1.now)) result
-        (first_word registers.now register_text bytes.now) }
+// The register whose name is an r and these two characters.
+fn register_of(second: u8, third: u8) -> Option<u8>
+    requires eight { second ≢ 56 }
+    requires nine { second ≢ 57 }
+    ensures { (rest : List ℕ)
+        → Reads (λ r. (r, rest)) result (first_word registers register_text (114 ∷ second ∷ third ∷ rest)) }
 {
-    let mut left = registers;
-    while let [r, others @ ..] = left {
-        match behind(bytes, register_name(*r)) {
-            Some(rest) => return Some((*r, rest)),
-            None => left = others,
-        }
+    match second {
+        b'a' => if third == b'x' { Some(0) } else { None },
+        b'c' => if third == b'x' { Some(1) } else { None },
+        b'd' => match third {
+            b'x' => Some(2),
+            b'i' => Some(7),
+            _ => None,
+        },
+        b'b' => match third {
+            b'x' => Some(3),
+            b'p' => Some(5),
+            _ => None,
+        },
+        b's' => match third {
+            b'p' => Some(4),
+            b'i' => Some(6),
+            _ => None,
+        },
+        b'1' => match third {
+            b'0'..=b'5' => Some(third - 38),
+            _ => None,
+        },
+        _ => None,
     }
-    None
+}
+
+// A register by what stands behind the first two characters of its name.
+fn register_behind(second: u8, bytes: &[u8]) -> Option<(u8, &[u8])>
+    ensures { Reads (λ x. (x.0, x.1.now)) result
+        (first_word registers register_text (114 ∷ second ∷ bytes.now)) }
+{
+    match second {
+        b'8' => Some((8, bytes)),
+        b'9' => Some((9, bytes)),
+        _ => match bytes {
+            [] => None,
+            [third, rest @ ..] => {
+                let r = register_of(second, *third)?;
+                Some((r, rest))
+            }
+        },
+    }
 }
 
 // A register by its name.
@@ -80,27 +95,67 @@ fn first_register<'a>(registers: &[u8], bytes: &'a [u8]) -> Option<(u8, &'a [u8]
 pub fn register_at(bytes: &[u8]) -> Option<(u8, &[u8])>
     ensures { Reads (λ x. (x.0, x.1.now)) result (register.read bytes.now) }
 {
-    first_register(&REGISTERS, bytes)
-}
-
-fn first_kind<'a>(kinds: &[Kind], bytes: &'a [u8]) -> Option<(Kind, &'a [u8])>
-    ensures { Reads (λ x. (x.0, x.1.now)) result (first_word kinds.now kind_name bytes.now) }
-{
-    let mut left = kinds;
-    while let [kind, others @ ..] = left {
-        match behind(bytes, kind_word(*kind)) {
-            Some(rest) => return Some((*kind, rest)),
-            None => left = others,
+    match bytes {
+        [first, second, rest @ ..] => {
+            if *first == b'r' {
+                register_behind(*second, rest)
+            } else {
+                None
+            }
         }
+        _ => None,
     }
-    None
 }
 
-// The kind of a value.
+// A kind of a value, by its word.
+fn word_at(kind: Kind, bytes: &[u8]) -> Option<(Kind, &[u8])>
+    ensures { Reads (λ x. (x.0, x.1.now)) result (first_word (kind ∷ []) kind_name bytes.now) }
+{
+    let rest = behind(bytes, kind_word(kind))?;
+    Some((kind, rest))
+}
+
+// One of two kinds.
+fn either_at(first: Kind, second: Kind, bytes: &[u8]) -> Option<(Kind, &[u8])>
+    ensures { Reads (λ x. (x.0, x.1.now)) result (first_word (first ∷ second ∷ []) kind_name bytes.now) }
+{
+    match behind(bytes, kind_word(first)) {
+        Some(rest) => Some((first, rest)),
+        None => word_at(second, bytes),
+    }
+}
+
+// A kind of an entry.
+fn entry_kind_at(bytes: &[u8]) -> Option<(Kind, &[u8])>
+    ensures { Reads (λ x. (x.0, x.1.now)) result (first_word (kinds.Entry ∷ kinds.EntryPtr ∷ kinds.EntryTyped ∷ []) kind_name bytes.now) }
+{
+    match behind(bytes, b"entry:") {
+        Some(rest) => Some((Kind::Entry, rest)),
+        None => either_at(Kind::EntryPtr, Kind::EntryTyped, bytes),
+    }
+}
+
+// The kind of a value. The first letter leaves one, two or three.
 fn kind_at(bytes: &[u8]) -> Option<(Kind, &[u8])>
     ensures { Reads (λ x. (x.0, x.1.now)) result (first_word all_kinds kind_name bytes.now) }
 {
-    first_kind(&KINDS, bytes)
+    match bytes {
+        [] => None,
+        [letter, ..] => match *letter {
+            b'a' => word_at(Kind::Any, bytes),
+            b'n' => word_at(Kind::Num, bytes),
+            b'c' => word_at(Kind::Const, bytes),
+            b'l' => word_at(Kind::Low, bytes),
+            b'g' => word_at(Kind::Globals, bytes),
+            b'b' => either_at(Kind::Below, Kind::Both, bytes),
+            b'h' => either_at(Kind::HeapBase, Kind::HeapAddr, bytes),
+            b'i' => either_at(Kind::Image, Kind::Index16, bytes),
+            b't' => either_at(Kind::TagOf, Kind::TableFn, bytes),
+            b'j' => either_at(Kind::JumpOff, Kind::JumpDest, bytes),
+            b'e' => entry_kind_at(bytes),
+            _ => None,
+        },
+    }
 }
 
 #[tactic(auto, unfolding(crate::specs::Grammar::via))]
