@@ -7,6 +7,7 @@ pub mod Reports
 pub mod Told
 pub mod Names
 pub mod Answers
+pub mod Requests
 pub mod Checks
 pub mod OneCheck
 pub mod Readback

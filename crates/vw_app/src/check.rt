@@ -21,8 +21,8 @@ use vw_report::{ReportError, read_report};
 use vw_sandbox::safe_tables_are_sandboxed;
 use vw_state::Tables;
 
-/// The status and the text that answer `check` on the file and the report that the shelf has under these names. The report
-/// is read where the file is a module. OutOfMemory where the allocator refuses a request.
+/// The status and the text that answer `check` on the file and the report that the shelf has under these names. The
+/// report is read where the file is a module. OutOfMemory where the allocator refuses a request.
 pub fn check<F: Shelf>(
     alloc: Global,
     shelf: &mut F,
@@ -62,7 +62,8 @@ fn check_file<F: Shelf>(
         (F.failed shelf.new) report.now) reply.0.0 reply.1) }
     ensures safe { IfOk result (λ reply. reply.0.0 ≡ 0 → (bytes : List ℕ)
         × AreTold (F.told shelf.old report.now) bytes × IsSandboxedByReport file bytes) }
-    ensures unread { IfOk result (λ reply. reply.0.0 ≡ 2 → F.opened shelf.new ≡ F.opened shelf.old) }
+    ensures unread { IfOk result (λ reply. reply.0.0 ≡ 2
+        → F.opened shelf.new ≡ F.opened shelf.old) }
     ensures no_fault { IfOk result (λ reply. reply.0.0 ≢ 5) }
     ensures no_want { IfOk result (λ reply. reply.0.0 ≢ 6) }
 {

@@ -1,10 +1,9 @@
-ghost use Rattle.std.specs.Prelude.{◌≡◌, ◌++◌, ◌<◌, length, IfOk, OnOk};
-ghost use Rattle.std.specs.List.{flat_map, enumerate_from};
+ghost use Rattle.std.specs.Prelude.{◌≡◌, ◌++◌, IfOk, OnOk};
 ghost use Rattle.vw_layout.specs.Layout.{IsWhole, declared_functions, declared_tables};
 ghost use Rattle.vw_dynamic.specs.Dynamic.{file_imports};
-ghost use Rattle.vw_app.specs.Lines.{address_text, function_line, table_line, import_line, info_text, count_line, function_lines, table_lines, import_lines};
+ghost use Rattle.vw_app.specs.Lines.{address_text, function_line, table_line, import_line, info_text, function_lines, table_lines, import_lines};
 
-use crate::lines::push_name;
+use crate::lines::{push_count, push_name};
 use std::alloc::Global;
 use vw_bits::{OutOfMemory, Text};
 use vw_dynamic::Imports;
@@ -13,7 +12,8 @@ use vw_layout::{Function, Module, TableInfo};
 /// The functions, the tables and the imports of a module, each on a line.
 pub fn info_text(alloc: Global, loaded: &Module) -> Result<Text, OutOfMemory>
     requires { IsWhole loaded.now }
-    ensures { IfOk result (λ text. text ≡ info_text (declared_functions loaded.now.image.bytes) (declared_tables loaded.now.image.bytes) (file_imports loaded.now.image.bytes)) }
+    ensures { IfOk result (λ text. text ≡ info_text (declared_functions loaded.now.image.bytes)
+        (declared_tables loaded.now.image.bytes) (file_imports loaded.now.image.bytes)) }
 {
     let mut text = Text::new(alloc);
     push_functions(&mut text, loaded.functions.as_slice())?;
@@ -53,14 +53,6 @@ fn push_imports(text: &mut Text, imports: &Imports) -> Result<(), OutOfMemory>
     Ok(())
 }
 
-fn push_count(text: &mut Text, what: &[u8], count: u64) -> Result<(), OutOfMemory>
-    ensures { OnOk result (text.new ≡ text.old ++ count_line what.now count) }
-{
-    text.push(what)?;
-    text.dec(count)?;
-    text.push(b"\n")
-}
-
 fn push_function(text: &mut Text, function: &Function) -> Result<(), OutOfMemory>
     ensures { OnOk result (text.new ≡ text.old ++ function_line function.now) }
 {
@@ -92,7 +84,7 @@ fn push_import(text: &mut Text, number: u32, name: &[u8]) -> Result<(), OutOfMem
     text.push(b"\n")
 }
 
-/// Appends an address in sixteen hexadecimal digits.
+// Appends an address in sixteen hexadecimal digits.
 fn push_address(text: &mut Text, address: u64) -> Result<(), OutOfMemory>
     ensures { OnOk result (text.new ≡ text.old ++ address_text address) }
 {

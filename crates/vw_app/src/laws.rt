@@ -56,9 +56,9 @@ pub fn one_check()
     texts_tell_tables();
 }
 
-/// Where the words ask for a check of a module and a report that the shelf tells, no call of the shelf failed, and the report
-/// is no longer than one may be and the text of safe tables, the answer has status 0 and the line of a safe module. So `run`
-/// answers that, unless memory was refused or a write failed, which is counted.
+/// Where the words ask for a check of a module and a report that the shelf tells, no call of the shelf failed, and the
+/// report is no longer than one may be and the text of safe tables, the answer has status 0 and the line of a safe
+/// module. So `run` answers that, unless memory was refused or a write failed, which is counted.
 pub fn safe_reports_are_answered()
     ensures { (words : List (List ℕ)) (told : List ℕ → Option (List ℕ))
         (before after : ℕ) (opened : Option (List ℕ)) (failed : Bool)
@@ -72,8 +72,8 @@ pub fn safe_reports_are_answered()
     texts_tell_tables();
 }
 
-/// Where the words ask for a module that is made from a number, its bytes are the answer, with status 0, or what the test
-/// with it says.
+/// Where the words ask for a module that is made from a number, its bytes are the answer, with status 0, or what the
+/// test with it says.
 pub fn made_modules_are_answered()
     ensures written { (words : List (List ℕ)) (told : List ℕ → Option (List ℕ))
         (before after : ℕ) (opened : Option (List ℕ)) (failed : Bool)

@@ -1,5 +1,5 @@
 ghost use Rattle.std.specs.Prelude.{◌≡◌, ◌++◌, IfOk, OnOk};
-ghost use Rattle.vw_app.specs.Lines.{line, name_byte, name_text, safe_line, selftest_line, unsafe_line, check_text, check_word, malformed_line, read_fault_line, bad_report_line};
+ghost use Rattle.vw_app.specs.Lines.{line, name_byte, name_text, safe_line, selftest_line, unsafe_line, check_text, check_word, malformed_line, read_fault_line, bad_report_line, count_line};
 
 use std::alloc::Global;
 use vw_bits::{OutOfMemory, Text};
@@ -11,15 +11,11 @@ pub const READ_FAULT: &[u8] = b"read fault\n";
 pub fn safe_text(alloc: Global, functions: usize) -> Result<Text, OutOfMemory>
     ensures { IfOk result (λ text. text ≡ safe_line functions) }
 {
-    let mut text = Text::new(alloc);
-    text.push(b"safe, functions ")?;
-    text.dec(functions as u64)?;
-    text.push(b"\n")?;
-    Ok(text)
+    count_text(alloc, b"safe, functions ", functions as u64)
 }
 
-/// The line for a module that was made, judged safe and rechecked, which has so many functions, and so many states in its
-/// least tables.
+/// The line for a module that was made, judged safe and rechecked, which has so many functions, and so many states in
+/// its least tables.
 pub fn selftest_text(alloc: Global, functions: usize, states: u64) -> Result<Text, OutOfMemory>
     ensures { IfOk result (λ text. text ≡ selftest_line functions states) }
 {
@@ -48,7 +44,7 @@ pub fn unsafe_text(alloc: Global, name: &[u8], at: u32, check: u8) -> Result<Tex
     Ok(text)
 }
 
-/// Appends a check, by its number from 0 to 8: the number and its word.
+// Appends a check, by its number from 0 to 8: the number and its word.
 fn push_check(text: &mut Text, check: u8) -> Result<(), OutOfMemory>
     ensures { OnOk result (text.new ≡ text.old ++ check_text check) }
 {
@@ -58,7 +54,7 @@ fn push_check(text: &mut Text, check: u8) -> Result<(), OutOfMemory>
     text.push(check_word(check))
 }
 
-/// The word of a check, by its number from 0 to 8; 0 is that tables are a solution.
+// The word of a check, by its number from 0 to 8; 0 is that tables are a solution.
 fn check_word(check: u8) -> &'static [u8]
     ensures { result.now ≡ check_word check }
 {
@@ -97,19 +93,34 @@ pub fn read_fault_text(alloc: Global) -> Result<Text, OutOfMemory>
     Ok(text)
 }
 
-/// The line for a report that is not read, with its first line in error, counted from 1, or 0 where the report is too long.
+/// The line for a report that is not read, with its first line in error, counted from 1, or 0 where the report is too
+/// long.
 pub fn bad_report_text(alloc: Global, line: u64) -> Result<Text, OutOfMemory>
     ensures { IfOk result (λ text. text ≡ bad_report_line line) }
 {
+    count_text(alloc, b"bad report, line ", line)
+}
+
+// A line of what is counted and the count.
+fn count_text(alloc: Global, what: &[u8], count: u64) -> Result<Text, OutOfMemory>
+    ensures { IfOk result (λ text. text ≡ count_line what.now count) }
+{
     let mut text = Text::new(alloc);
-    text.push(b"bad report, line ")?;
-    text.dec(line)?;
-    text.push(b"\n")?;
+    push_count(&mut text, what, count)?;
     Ok(text)
 }
 
-/// Appends a name: visible ASCII characters other than the backslash as they are, and each other byte as
-/// `\x` and two hexadecimal digits.
+/// Appends a line of what is counted and the count.
+pub fn push_count(text: &mut Text, what: &[u8], count: u64) -> Result<(), OutOfMemory>
+    ensures { OnOk result (text.new ≡ text.old ++ count_line what.now count) }
+{
+    text.push(what)?;
+    text.dec(count)?;
+    text.push(b"\n")
+}
+
+/// Appends a name: visible ASCII characters other than the backslash as they are, and each other byte as `\x` and two
+/// hexadecimal digits.
 pub fn push_name(text: &mut Text, name: &[u8]) -> Result<(), OutOfMemory>
     ensures { OnOk result (text.new ≡ text.old ++ name_text name.now) }
 {

@@ -18,8 +18,9 @@ use vw_layout::{Module, functions_ascend};
 use vw_solver::Steps;
 use vw_state::{FunctionTable, PointState, code_of, instruction_at};
 
-/// The code of each function of a module: its name, and a line for each point of its least table, which are the points to
-/// which control can come as far as the analysis knows. One table is held at a time.
+/// The code of each function of a module: its name, and a line for each point of its least table, which are the points
+/// to which control can come as far as the analysis knows. One table is held at a time. OutOfMemory where the allocator
+/// refuses a request.
 pub fn listing_text(alloc: Global, loaded: &Module) -> Result<Text, OutOfMemory>
     requires { IsWhole loaded.now }
     ensures { IfOk result (IsListing loaded.now) }
@@ -61,8 +62,8 @@ fn push_function<L: Ledger>(
 ) -> Result<(), OutOfMemory>
     requires whole { IsWhole loaded.now }
     requires declared { number < length loaded.now.functions }
-    ensures { (f : Function) → slice_get loaded.now.functions number ≡ Some f
-        → OnOk result (Appends (IsFunctionListing (context_of loaded.now f) f.name) text.old text.new) }
+    ensures { (f : Function) → slice_get loaded.now.functions number ≡ Some f → OnOk result
+        (Appends (IsFunctionListing (context_of loaded.now f) f.name) text.old text.new) }
 {
     let table = last_table(rounds(alloc, loaded, number, steps)?);
     let function = &loaded.functions.as_slice()[number as usize];

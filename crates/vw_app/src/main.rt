@@ -19,7 +19,7 @@ use std::env;
 use std::process::ExitCode;
 use vw_outside::{FileShelf, StdSink};
 
-/// The exit status where the system handed out no words.
+// The exit status where the system handed out no words.
 const NO_WORDS: u8 = 9;
 
 fn main(rt: HostRuntime) -> ExitCode {
@@ -32,7 +32,7 @@ fn main(rt: HostRuntime) -> ExitCode {
     ExitCode::from(status.0)
 }
 
-/// The words after the program's name.
+// The words after the program's name.
 fn words(rt: &HostRuntime) -> std::io::Result<Vec<String>> {
     let mut words = Vec::new(rt.alloc());
     for word in env::args(rt)?.skip(1) {
@@ -42,10 +42,4 @@ fn words(rt: &HostRuntime) -> std::io::Result<Vec<String>> {
 }
 
 #[cfg(test)]
-mod rule_tests;
-#[cfg(test)]
-mod smallest;
-#[cfg(test)]
 mod tests;
-#[cfg(test)]
-mod whole_tests;

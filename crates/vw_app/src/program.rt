@@ -13,7 +13,7 @@ use crate::info::info_text;
 use crate::limits::LONGEST_FILE;
 use crate::lines::{READ_FAULT, malformed_text};
 use crate::listing::listing_text;
-use crate::request::{Command, module_of, report_of, request_of, test_of};
+use crate::request::{Command, numbers_behind, report_of, request_of};
 use crate::selftest::selftest;
 use crate::status::Status;
 use crate::verdict::{report, verify};
@@ -26,8 +26,8 @@ use vw_outside::{ReadError, Shelf, Sink, read_all, write_all_of};
 const USAGE: &[u8] =
     b"usage: vw verify FILE | report FILE | check FILE REPORT | list FILE | info FILE | trace FILE FUNCTION STEPS NUMBER | make FUNCTIONS NUMBER | selftest FUNCTIONS NUMBER\n";
 
-/// Does all that `vw` does: reads the words after the program's name, the files that they name on the
-/// shelf, where they name any, and writes the answer to the sink.
+/// Does all that `vw` does: reads the words after the program's name, the files that they name on the shelf, where they
+/// name any, and writes the answer to the sink. The statuses are those of `Status`.
 pub fn run<F: Shelf, K: Sink>(
     alloc: Global,
     words: &[String],
@@ -38,30 +38,35 @@ pub fn run<F: Shelf, K: Sink>(
     ensures replied { result.0 ≢ 5 → result.0 ≢ 6
         → (text : List ℕ) × Appended (K.written sink.old) (K.written sink.new) text
         × Reply (map string_bytes words.now) (F.told shelf.old)
-        (ReadFailed (F.faults shelf.old) (F.faults shelf.new) (F.opened shelf.new) (F.failed shelf.new))
+        (ReadFailed (F.faults shelf.old) (F.faults shelf.new) (F.opened shelf.new)
+        (F.failed shelf.new))
         result.0 text }
 
-    // Where the verdict is safe, by `verify` or by `report`, the file is a module whose least tables are safe, and every run
-    // of every function in every instance stays in its sandbox and keeps to these tables.
+    // Where the verdict is safe, by `verify` or by `report`, the file is a module whose least tables are safe, and
+    // every run of every function in every instance stays in its sandbox and keeps to these tables.
     ensures safe { (command : Command) (name : List ℕ) → Judges command
         → Asks (map string_bytes words.now) command name → result.0 ≡ 0
         → (file : List ℕ) × AreTold (F.told shelf.old name) file × IsSandboxedFile file }
 
-    // On a module the answer is the command's: the verdict of `verify` and `report` is safe exactly where every function has
-    // a safe table, and otherwise it is unsafe, with the module's place.
-    ensures exact { (command : Command) (name file : List ℕ) → Asks (map string_bytes words.now) command name
-        → F.told shelf.old name ≡ Some file → IsModule file → result.0 ≢ 4 → result.0 ≢ 5 → result.0 ≢ 6
+    // On a module the answer is the command's: the verdict of `verify` and `report` is safe exactly where every
+    // function has a safe table, and otherwise it is unsafe, with the module's place.
+    ensures exact { (command : Command) (name file : List ℕ)
+        → Asks (map string_bytes words.now) command name
+        → F.told shelf.old name ≡ Some file → IsModule file
+        → result.0 ≢ 4 → result.0 ≢ 5 → result.0 ≢ 6
         → (text : List ℕ) × Appended (K.written sink.old) (K.written sink.new) text
         × Done command file result.0 text }
 
-    // Where `check` answers safe, the file is a module and the report is the text of safe tables, and every run of every
-    // function in every instance stays in its sandbox and keeps to the report's tables.
-    ensures safe_report { (name report : List ℕ) → AsksCheck (map string_bytes words.now) name report
+    // Where `check` answers safe, the file is a module and the report is the text of safe tables, and every run of
+    // every function in every instance stays in its sandbox and keeps to the report's tables.
+    ensures safe_report { (name report : List ℕ)
+        → AsksCheck (map string_bytes words.now) name report
         → result.0 ≡ 0 → (file bytes : List ℕ) × AreTold (F.told shelf.old name) file
         × AreTold (F.told shelf.old report) bytes × IsSandboxedByReport file bytes }
 
-    // On a module and a report that is told, the answer is that of `check`: 7 exactly where the report is longer than one may
-    // be or no report's text, 0 exactly where its tables are safe, and else 1, with the lowest place at which they are not.
+    // On a module and a report that is told, the answer is that of `check`: 7 exactly where the report is longer than
+    // one may be or no report's text, 0 exactly where its tables are safe, and else 1, with the lowest place at which
+    // they are not.
     ensures exact_report { (name report file bytes : List ℕ)
         → AsksCheck (map string_bytes words.now) name report
         → F.told shelf.old name ≡ Some file → F.told shelf.old report ≡ Some bytes → IsModule file
@@ -69,9 +74,10 @@ pub fn run<F: Shelf, K: Sink>(
         → (text : List ℕ) × Appended (K.written sink.old) (K.written sink.new) text
         × Checked (declared_module file) bytes result.0 text }
 
-    // Where `selftest` answers that the module which is made is safe, every run of every function of it stays in its sandbox
-    // and keeps to its least tables.
-    ensures safe_test { (functions number : ℕ) → AsksTest (map string_bytes words.now) functions number
+    // Where `selftest` answers that the module which is made is safe, every run of every function of it stays in its
+    // sandbox and keeps to its least tables.
+    ensures safe_test { (functions number : ℕ)
+        → AsksTest (map string_bytes words.now) functions number
         → result.0 ≡ 0 → IsSandboxedFile (made_file functions number) }
 
     // Where the file is no module, the report is not opened.
@@ -81,9 +87,11 @@ pub fn run<F: Shelf, K: Sink>(
     // A write failed: a front part of the text of the status that is replaced was written.
     ensures write_fault { result.0 ≡ 5
         → Rose (K.faults sink.old) (K.faults sink.new)
-        × (status : ℕ) × (text : List ℕ) × AppendedFront (K.written sink.old) (K.written sink.new) text
+        × (status : ℕ) × (text : List ℕ)
+        × AppendedFront (K.written sink.old) (K.written sink.new) text
         × Reply (map string_bytes words.now) (F.told shelf.old)
-        (ReadFailed (F.faults shelf.old) (F.faults shelf.new) (F.opened shelf.new) (F.failed shelf.new))
+        (ReadFailed (F.faults shelf.old) (F.faults shelf.new) (F.opened shelf.new)
+        (F.failed shelf.new))
         status text }
 
     // Memory was refused before the text was composed.
@@ -106,31 +114,37 @@ pub fn run<F: Shelf, K: Sink>(
     }
 }
 
-/// Writes the answer of `check`, where the words ask for it, and else the answer to words without a file.
+// Writes the answer of `check`, where the words ask for it, and else the answer to words without a file.
 fn with_report<F: Shelf, K: Sink>(
     alloc: Global,
     words: &[String],
     shelf: &mut F,
     sink: &mut K,
 ) -> Status
-    requires { (command : Command) (name : List ℕ) → Asks (map string_bytes words.now) command name → ⊥ }
+    requires { (command : Command) (name : List ℕ)
+        → Asks (map string_bytes words.now) command name → ⊥ }
     ensures replied { result.0 ≢ 5 → result.0 ≢ 6
         → (text : List ℕ) × Appended (K.written sink.old) (K.written sink.new) text
         × Reply (map string_bytes words.now) (F.told shelf.old)
-        (ReadFailed (F.faults shelf.old) (F.faults shelf.new) (F.opened shelf.new) (F.failed shelf.new))
+        (ReadFailed (F.faults shelf.old) (F.faults shelf.new) (F.opened shelf.new)
+        (F.failed shelf.new))
         result.0 text }
-    ensures safe_report { (name report : List ℕ) → AsksCheck (map string_bytes words.now) name report
+    ensures safe_report { (name report : List ℕ)
+        → AsksCheck (map string_bytes words.now) name report
         → result.0 ≡ 0 → (file bytes : List ℕ) × AreTold (F.told shelf.old name) file
         × AreTold (F.told shelf.old report) bytes × IsSandboxedByReport file bytes }
-    ensures safe_test { (functions number : ℕ) → AsksTest (map string_bytes words.now) functions number
+    ensures safe_test { (functions number : ℕ)
+        → AsksTest (map string_bytes words.now) functions number
         → result.0 ≡ 0 → IsSandboxedFile (made_file functions number) }
     ensures unread { (name report : List ℕ) → AsksCheck (map string_bytes words.now) name report
         → result.0 ≡ 2 → F.opened shelf.new ≡ Some name }
     ensures write_fault { result.0 ≡ 5
         → Rose (K.faults sink.old) (K.faults sink.new)
-        × (status : ℕ) × (text : List ℕ) × AppendedFront (K.written sink.old) (K.written sink.new) text
+        × (status : ℕ) × (text : List ℕ)
+        × AppendedFront (K.written sink.old) (K.written sink.new) text
         × Reply (map string_bytes words.now) (F.told shelf.old)
-        (ReadFailed (F.faults shelf.old) (F.faults shelf.new) (F.opened shelf.new) (F.failed shelf.new))
+        (ReadFailed (F.faults shelf.old) (F.faults shelf.new) (F.opened shelf.new)
+        (F.failed shelf.new))
         status text }
     ensures memory { result.0 ≡ 6 → (sink.new ≡ sink.old) × IsForm (map string_bytes words.now) }
 {
@@ -143,22 +157,26 @@ fn with_report<F: Shelf, K: Sink>(
     }
 }
 
-/// Writes what the test says for which the words ask, and else the answer to words that name no module to be tested.
+// Writes what the test says for which the words ask, and else the answer to words that name no module to be tested.
 fn with_test<K: Sink>(alloc: Global, words: &[String], sink: &mut K) -> Status
-    requires file { (command : Command) (name : List ℕ) → Asks (map string_bytes words.now) command name → ⊥ }
-    requires report { (name report : List ℕ) → AsksCheck (map string_bytes words.now) name report → ⊥ }
+    requires file { (command : Command) (name : List ℕ)
+        → Asks (map string_bytes words.now) command name → ⊥ }
+    requires report { (name report : List ℕ)
+        → AsksCheck (map string_bytes words.now) name report → ⊥ }
     ensures replied { result.0 ≢ 5 → result.0 ≢ 6
         → (text : List ℕ) × Appended (K.written sink.old) (K.written sink.new) text
         × WithoutFile (map string_bytes words.now) result.0 text }
-    ensures safe_test { (functions number : ℕ) → AsksTest (map string_bytes words.now) functions number
+    ensures safe_test { (functions number : ℕ)
+        → AsksTest (map string_bytes words.now) functions number
         → result.0 ≡ 0 → IsSandboxedFile (made_file functions number) }
     ensures write_fault { result.0 ≡ 5
         → Rose (K.faults sink.old) (K.faults sink.new)
-        × (status : ℕ) × (text : List ℕ) × AppendedFront (K.written sink.old) (K.written sink.new) text
+        × (status : ℕ) × (text : List ℕ)
+        × AppendedFront (K.written sink.old) (K.written sink.new) text
         × WithoutFile (map string_bytes words.now) status text }
     ensures memory { result.0 ≡ 6 → (sink.new ≡ sink.old) × IsForm (map string_bytes words.now) }
 {
-    let Some((functions, number)) = test_of(words) else {
+    let Some((functions, number)) = numbers_behind(words, "selftest") else {
         return without_file(alloc, words, sink);
     };
     match selftest(alloc, functions, number) {
@@ -167,21 +185,25 @@ fn with_test<K: Sink>(alloc: Global, words: &[String], sink: &mut K) -> Status
     }
 }
 
-/// Writes the module that the words ask for, or the usage line.
+// Writes the module that the words ask for, or the usage line.
 fn without_file<K: Sink>(alloc: Global, words: &[String], sink: &mut K) -> Status
-    requires file { (command : Command) (name : List ℕ) → Asks (map string_bytes words.now) command name → ⊥ }
-    requires report { (name report : List ℕ) → AsksCheck (map string_bytes words.now) name report → ⊥ }
-    requires test { (functions number : ℕ) → AsksTest (map string_bytes words.now) functions number → ⊥ }
+    requires file { (command : Command) (name : List ℕ)
+        → Asks (map string_bytes words.now) command name → ⊥ }
+    requires report { (name report : List ℕ)
+        → AsksCheck (map string_bytes words.now) name report → ⊥ }
+    requires test { (functions number : ℕ)
+        → AsksTest (map string_bytes words.now) functions number → ⊥ }
     ensures replied { result.0 ≢ 5 → result.0 ≢ 6
         → (text : List ℕ) × Appended (K.written sink.old) (K.written sink.new) text
         × WithoutFile (map string_bytes words.now) result.0 text }
     ensures write_fault { result.0 ≡ 5
         → Rose (K.faults sink.old) (K.faults sink.new)
-        × (status : ℕ) × (text : List ℕ) × AppendedFront (K.written sink.old) (K.written sink.new) text
+        × (status : ℕ) × (text : List ℕ)
+        × AppendedFront (K.written sink.old) (K.written sink.new) text
         × WithoutFile (map string_bytes words.now) status text }
     ensures memory { result.0 ≡ 6 → (sink.new ≡ sink.old) × IsForm (map string_bytes words.now) }
 {
-    match module_of(words) {
+    match numbers_behind(words, "make") {
         Some((functions, number)) => match make(alloc, functions, number) {
             Ok(file) => finish(sink, Status::DONE, file.as_slice()),
             Err(OutOfMemory) => Status::OUT_OF_MEMORY,
@@ -190,7 +212,7 @@ fn without_file<K: Sink>(alloc: Global, words: &[String], sink: &mut K) -> Statu
     }
 }
 
-/// The status and the text that a command gives for the bytes of its file.
+// The status and the text that a command gives for the bytes of its file.
 fn answer(alloc: Global, command: Command, file: List<u8>) -> Result<(Status, Text), OutOfMemory>
     ensures answered { IfOk result (λ reply. Answered command file reply.0.0 reply.1) }
     ensures safe { IfOk result (λ reply. Judges command → reply.0.0 ≡ 0 → IsSandboxedFile file) }
@@ -211,11 +233,13 @@ fn answer(alloc: Global, command: Command, file: List<u8>) -> Result<(Status, Te
     }
 }
 
-/// Writes the text and answers its status, or that the write failed.
+// Writes the text and answers its status, or that the write failed.
 fn finish<K: Sink>(sink: &mut K, status: Status, text: &[u8]) -> Status
     requires { status.0 ≢ 5 }
-    ensures done { result.0 ≢ 5 → (result ≡ status) × Appended (K.written sink.old) (K.written sink.new) text.now }
-    ensures failed { result.0 ≡ 5 → Rose (K.faults sink.old) (K.faults sink.new) × AppendedFront (K.written sink.old) (K.written sink.new) text.now }
+    ensures done { result.0 ≢ 5 → (result ≡ status)
+        × Appended (K.written sink.old) (K.written sink.new) text.now }
+    ensures failed { result.0 ≡ 5 → Rose (K.faults sink.old) (K.faults sink.new)
+        × AppendedFront (K.written sink.old) (K.written sink.new) text.now }
 {
     match write_all_of(sink, text) {
         Ok(()) => status,

@@ -15,8 +15,10 @@ pub fn round_trip(
     insn: &Insn,
     behind: &[u8],
 ) -> Result<Option<(Insn, usize)>, OutOfMemory>
-    ensures back { IfOk result (λ found. IfSome found (λ f. (f.0 ≡ insn.now) × (front : List ℕ) × IsFirst front insn.now × (f.1 ≡ length front))) }
-    ensures none { IfOk result (λ found. found ≡ None → (bytes : List ℕ) → Spells bytes insn.now → ⊥) }
+    ensures back { IfOk result (λ found. IfSome found (λ f. (f.0 ≡ insn.now) × (front : List ℕ)
+        × IsFirst front insn.now × (f.1 ≡ length front))) }
+    ensures none { IfOk result (λ found. found ≡ None
+        → (bytes : List ℕ) → Spells bytes insn.now → ⊥) }
 {
     let Ok(spelled) = encode(insn) else {
         return Ok(None);

@@ -8,10 +8,8 @@ ghost use Rattle.vw_app.specs.Selftest.{made_file, number_of_states, IsTestedLin
 
 use crate::lines::{malformed_text, selftest_text};
 use crate::status::Status;
-use crate::verdict::{as_bytes, place_text};
+use crate::verdict::{as_bytes, place_text, verdict_of};
 use std::alloc::Global;
-use std::marker::Brand;
-use std::sync::ledger::{Blank, Ledger};
 use vw_bits::{OutOfMemory, Text};
 use vw_image::segments_are_bounded;
 use vw_layout::{Module, ModuleError, functions_are_code, functions_ascend};
@@ -21,14 +19,13 @@ use vw_report::{
     ReportError, least_tables_are_of_points, read_report, texts_tell_tables, write_report,
 };
 use vw_sandbox::safe_tables_are_sandboxed;
-use vw_solver::Steps;
 use vw_state::{FunctionTable, Tables, Verdict};
-use vw_verdict::judge;
 
-/// The status and the line of a test of the whole program: the module of so many functions, at most 65,536, that is made
-/// from a number is read and judged, the report of its least tables is written and read back, and the tables that were
-/// read are rechecked. A safe module's report always reads back, and its tables pass. So the status is 0 exactly where the
-/// module is safe, else 1 with the place where a check fails; 2 would say that what was made is no module.
+/// The status and the line of a test of the whole program: the module of so many functions, at most 65,536, that is
+/// made from a number is read and judged, the report of its least tables is written and read back, and the tables that
+/// were read are rechecked. A safe module's report always reads back, and its tables pass. So the status is 0 exactly
+/// where the module is safe, else 1 with the place where a check fails; 2 would say that what was made is no module.
+/// OutOfMemory where the allocator refuses a request.
 pub fn selftest(alloc: Global, functions: u32, number: u64) -> Result<(Status, Text), OutOfMemory>
     requires { functions ≤ 65536 }
     ensures tested { IfOk result (λ reply. SelfTested functions number reply.0.0 reply.1) }
@@ -40,7 +37,7 @@ pub fn selftest(alloc: Global, functions: u32, number: u64) -> Result<(Status, T
 {
     let file = make(alloc, functions, number)?;
     match Module::read(alloc, file) {
-        Ok(module) => test_module::<Brand>(alloc, &module, Blank::new(1)),
+        Ok(module) => test_module(alloc, &module),
         Err(ModuleError::Malformed { rule, offset }) => {
             Ok((Status::MALFORMED, malformed_text(alloc, rule, offset)?))
         }
@@ -48,25 +45,17 @@ pub fn selftest(alloc: Global, functions: u32, number: u64) -> Result<(Status, T
     }
 }
 
-// The status and the line for a module that was read, with a blank for the count of steps, which nobody reads.
-fn test_module<L: Ledger>(
-    alloc: Global,
-    loaded: &Module,
-    blank: Blank,
-) -> Result<(Status, Text), OutOfMemory>
-    requires whole { IsWhole loaded.now }
-    requires name { blank.name ≡ L.name }
-    requires parts { blank.parts ≡ L.parts }
-    requires some { 0 < L.parts }
+// The status and the line for a module that was read.
+fn test_module(alloc: Global, loaded: &Module) -> Result<(Status, Text), OutOfMemory>
+    requires { IsWhole loaded.now }
     ensures judged { IfOk result (λ reply.
         Judged loaded.now (IsTestedLine loaded.now) reply.0.0 reply.1) }
     ensures safe { IfOk result (λ reply. reply.0.0 ≡ 0 → IsSandboxedFile loaded.now.image.bytes) }
     ensures verdict { IfOk result (λ reply. reply.0.0 ≤ 1) }
 {
-    let mut steps: Steps<L> = Steps::from_blank(blank);
     safe_tables_are_sandboxed();
     as_bytes(loaded.image.bytes());
-    match judge(alloc, loaded, &mut steps)? {
+    match verdict_of(alloc, loaded)? {
         Verdict::Safe(tables) => {
             let states = rechecked_states(alloc, loaded, &tables)?;
             let functions = loaded.functions.as_slice().len();

@@ -7,10 +7,10 @@ use Rattle.vw_app.proofs.Answers.{replied, cut_short, not_six, module_tested, sa
 use Rattle.vw_app.proofs.program.with_test.Goals as goal
 
 pub without_file-requires-clause-test : goal.without_file-requires-clause-test
-without_file-requires-clause-test g c = rw c.in_default.is at c.test_of.ensures.none
+without_file-requires-clause-test g c = rw c.in_default.is at c.numbers_behind.ensures.none
 
 pub returns-in_default-clause-safe_test : goal.returns-in_default-clause-safe_test
-returns-in_default-clause-safe_test g c functions number asks zero = absurd ((rw c.in_default.is at c.test_of.ensures.none) functions number asks)
+returns-in_default-clause-safe_test g c functions number asks zero = absurd ((rw c.in_default.is at c.numbers_behind.ensures.none) functions number asks)
 
 pub returns-in-Ok-clause-replied : goal.returns-in-Ok-clause-replied
 returns-in-Ok-clause-replied g c =

@@ -1,5 +1,5 @@
 use Rattle.vw_app.proofs.Sample.{calling_meets}
-use Rattle.vw_app.proofs.whole_tests.calling_parts.Goals as goal
+use Rattle.vw_app.proofs.tests.whole.calling_parts.Goals as goal
 
 pub returns : goal.returns
 returns c =

@@ -1,5 +1,5 @@
 use Rattle.vw_app.proofs.Sample.{sample_meets}
-use Rattle.vw_app.proofs.whole_tests.parts_of.Goals as goal
+use Rattle.vw_app.proofs.tests.whole.parts_of.Goals as goal
 
 pub returns : goal.returns
 returns c =

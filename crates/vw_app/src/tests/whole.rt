@@ -2,15 +2,12 @@ ghost use Rattle.std.specs.Prelude.{◌≡◌, [], ◌∷◌, Some, None, IfOk};
 ghost use Rattle.vw_make.specs.Bounds.{MeetsBounds};
 ghost use Rattle.vw_make.specs.declared.parts.Target.{Target};
 
-use crate::selftest::selftest;
-use crate::status::Status;
-use crate::tests::expect;
+use super::fixtures::{expect, patch};
 use std::alloc::Global;
-use std::fs;
 use std::test::Fail;
 use vw_bits::{List, OutOfMemory, Text};
 use vw_make::{Func, Parts, Target, write_module};
-use vw_outside::{FileShelf, NeverFails, ReadError, read_all};
+use vw_outside::NeverFails;
 
 /// `mov eax, [rdi + 0]` with four bytes of displacement, `ret`.
 const READ: [u8; 7] = [0x8B, 0x87, 0, 0, 0, 0, 0xC3];
@@ -120,7 +117,11 @@ const ZEROS: [u8; 8] = [0; 8];
 
 // A function that calls through a table, and one with a switch.
 fn callers_of(alloc: Global) -> Result<List<Func>, OutOfMemory>
-    ensures { IfOk result (λ fs. fs ≡ record { name = 102 ∷ []; code = TABLE_CALL; fixes = (3, Target.Tables 8) ∷ (21, Target.Tables 0) ∷ [] }
+    ensures { IfOk result (λ fs. fs ≡ record {
+      name = 102 ∷ [];
+      code = TABLE_CALL;
+      fixes = (3, Target.Tables 8) ∷ (21, Target.Tables 0) ∷ [];
+    }
         ∷ record { name = 103 ∷ []; code = SWITCH; fixes = (10, Target.Data 0) ∷ [] } ∷ []) }
 {
     let first = Func {
@@ -187,11 +188,7 @@ fn calls_through_tables(rt: HostRuntime) -> Result<(), Fail> {
     for (patches, status, text) in cases {
         let mut bytes = file.as_slice().to_vec(alloc)?;
         for (at, piece) in patches {
-            for (index, byte) in piece.iter().enumerate() {
-                if let Some(place) = bytes.get_mut(at.saturating_add(index)) {
-                    *place = *byte;
-                }
-            }
+            patch(&mut bytes, *at, piece);
         }
         let mut shelf = NeverFails::new(List::from_vec(bytes));
         expect(&rt, &["verify", "m"], &mut shelf, &[], (status, text))?;
@@ -233,76 +230,10 @@ fn written_modules(rt: HostRuntime) -> Result<(), Fail> {
         (0xF8, 0x06, 1, "unsafe, gg+0x0, C4 address\n"),
     ] {
         let mut bytes = file.as_slice().to_vec(alloc)?;
-        if let Some(byte) = bytes.get_mut(DISPLACEMENT) {
-            *byte = displacement;
-        }
-        if let Some(byte) = bytes.get_mut(THIRD) {
-            *byte = third;
-        }
+        patch(&mut bytes, DISPLACEMENT, &[displacement]);
+        patch(&mut bytes, THIRD, &[third]);
         let mut shelf = NeverFails::new(List::from_vec(bytes));
         expect(&rt, &["verify", "m"], &mut shelf, &[], (status, text))?;
     }
-    Ok(())
-}
-
-// Modules that are made from a number. Their functions have 3, 7, 10, 9, 6, 4, 13 and 6 instructions in turn, each of which is
-// reached, so that each has a state.
-#[test]
-fn made_modules(rt: HostRuntime) -> Result<(), Fail> {
-    for (functions, number, wanted) in [
-        (
-            1,
-            0,
-            "selftest, functions 1, instructions 3, safe, rechecked\n",
-        ),
-        (
-            3,
-            5,
-            "selftest, functions 3, instructions 20, safe, rechecked\n",
-        ),
-        (
-            8,
-            1,
-            "selftest, functions 8, instructions 58, safe, rechecked\n",
-        ),
-        (
-            12,
-            7,
-            "selftest, functions 12, instructions 87, safe, rechecked\n",
-        ),
-    ] {
-        assert!(rt; functions <= 65_536);
-        let (status, text) = selftest(rt.alloc(), functions, number)?;
-        assert_eq!(rt; status, Status::DONE);
-        assert_eq!(rt; text.as_slice(), wanted.as_bytes());
-    }
-    Ok(())
-}
-
-// Bytes of which none is 0, and of which those that are 65,536 apart differ.
-fn pattern(alloc: Global, count: u32) -> Result<Vec<u8>, Fail> {
-    let mut bytes = Vec::new(alloc);
-    for index in 0..count {
-        bytes.push((index % 251) as u8 + 1)?;
-    }
-    Ok(bytes)
-}
-
-// A file of the system that is read in three pieces, the last of five bytes.
-#[test]
-fn system_files(rt: HostRuntime) -> Result<(), Fail> {
-    let alloc = rt.alloc();
-    let bytes = pattern(alloc, 131_077)?;
-    fs::write(&rt, "pattern", bytes.as_slice())?;
-    let mut shelf = FileShelf::new(&rt);
-    let whole = read_all(alloc, &mut shelf, "pattern", 131_077);
-    let cut = read_all(alloc, &mut shelf, "pattern", 131_076);
-    fs::remove_file(&rt, "pattern")?;
-    let same = match &whole {
-        Ok(read) => read.as_slice() == bytes.as_slice(),
-        Err(_) => false,
-    };
-    assert!(rt; same);
-    assert_eq!(rt; cut.err(), Some(ReadError::TooLong));
     Ok(())
 }

@@ -1,0 +1,4 @@
+use Rattle.vw_app.proofs.verdict.verdict_of.Given as goal
+
+abbrev pub ghosts-verdict_from : goal.ghosts-verdict_from
+ghosts-verdict_from a = record { name = a.blank.name; parts = a.blank.parts }
