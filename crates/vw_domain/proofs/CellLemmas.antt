@@ -6,7 +6,7 @@ use Rattle.vw_values.specs.declared.value.Via.TheVariants.{At, Idx}
 use Rattle.vw_values.specs.declared.value.Value.{Value}
 use Rattle.vw_values.specs.declared.value.Value.TheVariants.{Any, Num, Const, Below, Low, Both, HeapBase, HeapAddr, Globals, Entry, Image, Index16, EntryPtr, EntryTyped, TagOf, TableFn, JumpOff, JumpDest}
 use Rattle.vw_domain.specs.declared.registers.Register.{Register}
-use Rattle.vw_domain.specs.Cells.{word_of, value_word, with_offset, register_of_word}
+use Rattle.vw_domain.specs.Cells.{register_word, value_word, with_offset, register_of_word}
 
 parts_stand : (o : Offset) (v : Value) → register_of_word (with_offset o (value_word v)) ≡ record { offset = o; value = v }
 parts_stand offset.Unknown Any = refl
@@ -50,5 +50,5 @@ parts_stand (offset.Known z) (TableFn t g) = refl
 parts_stand (offset.Known z) (JumpOff a k) = refl
 parts_stand (offset.Known z) (JumpDest a k) = refl
 
-pub register_stands : (r : Register) → register_of_word (word_of r) ≡ r
+pub register_stands : (r : Register) → register_of_word (register_word r) ≡ r
 register_stands r = parts_stand r.offset r.value

@@ -1,3 +1,4 @@
+pub mod RegisterJoins
 pub mod RowLemmas
 pub mod CellLemmas
 pub mod SlotLemmas

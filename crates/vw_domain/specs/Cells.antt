@@ -79,8 +79,8 @@ with_offset Unknown w = w
 with_offset (Known c) w = record w { offset = c; is_known = true }
 
 -- the word of a register, and the register of a word
-abbrev pub word_of : Register → Word
-word_of r = with_offset r.offset (value_word r.value)
+abbrev pub register_word : Register → Word
+register_word r = with_offset r.offset (value_word r.value)
 
 abbrev pub register_of_word : Word → Register
 register_of_word w = record { offset = offset_by w.is_known w.offset; value = value_of_word w }

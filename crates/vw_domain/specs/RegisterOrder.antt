@@ -11,7 +11,7 @@ use Rattle.vw_values.specs.declared.value.Value.TheVariants.{Any, Num, Const, Be
 use Rattle.vw_values.specs.Values.{IsValid, IsNumber, value_below}
 use Rattle.vw_values.specs.OrderLaws as laws
 use Rattle.vw_domain.specs.declared.registers.Register.{Register}
-use Rattle.vw_domain.specs.Registers.{OffsetFits, IsValidRegister, register_below, register_rank, register_at, row_below, row_rank, IsValidRow}
+use Rattle.vw_domain.specs.Registers.{OffsetFits, IsRegister, IsValidRegister, register_below, register_rank, register_at, row_below, row_rank, IsValidRow}
 
 pub valid_value : (bounds : List ℕ) (r : Register) → IsValidRegister bounds r → IsValid bounds r.value
 valid_value bounds r v = (v.register.value, v.among)
@@ -57,10 +57,10 @@ fits_join bounds (Known d) Unknown (Known c) x y j join f g first second = absur
 fits_join bounds (Known d) (Known e) (Known c) x y j join f g first second =
     (rw (← f) first.0, plain_join bounds x y j join first.1 second.1)
 
-pub register_join : (bounds : List ℕ) (x y j : Register) → IsValidRegister bounds x → IsValidRegister bounds y → IsJoin offset_below (λ offset. ⊤) x.offset y.offset j.offset → IsJoin value_below (IsValid bounds) x.value y.value j.value → IsJoin register_below (IsValidRegister bounds) x y j
+pub register_join : (bounds : List ℕ) (x y j : Register) → IsRegister x → IsRegister y → IsJoin offset_below (λ offset. ⊤) x.offset y.offset j.offset → IsJoin value_below (IsValid bounds) x.value y.value j.value → IsJoin register_below (IsValidRegister bounds) x y j
 register_join bounds x y j v w offset value = record {
   valid = record {
-    register = record { value = value.valid.0; offset = fits_join bounds x.offset y.offset j.offset x.value y.value j.value value offset.above_left offset.above_right v.register.offset w.register.offset };
+    register = record { value = value.valid.0; offset = fits_join bounds x.offset y.offset j.offset x.value y.value j.value value offset.above_left offset.above_right v.offset w.offset };
     among = value.valid.1;
   };
   above_left = record { offset = offset.above_left; value = value.above_left };

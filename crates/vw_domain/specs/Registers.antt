@@ -2,7 +2,7 @@
 -- Numbers 0 to 15 are the processor's (SDM volume 1, 3.4.1), and 16 is a register that holds a number within one
 -- instruction.
 use Rattle.std.specs.Prelude.{◌≡◌, ℕ, ◌+◌, ◌^◌, ◌<◌, ◌⊎◌, ℤ, pos, ◌-ℤ◌, ◌≤ℤ◌, List, [], ◌∷◌, length, get_or}
-use Rattle.vw_lattice.specs.Order.{IsJoin}
+use Rattle.vw_lattice.specs.Order.{IsJoin, IsLeast}
 use Rattle.vw_stack.specs.Stack.{offset_below, offset_rank}
 use Rattle.vw_stack.specs.declared.offset.Offset.{Offset}
 use Rattle.vw_stack.specs.declared.offset.Offset.TheVariants.{Known, Unknown}
@@ -63,15 +63,22 @@ pub record IsRow (row : List Register) : Type 0 where
 abbrev pub IsValidRow : List ℕ → List Register → Type 0
 IsValidRow bounds row = (r : ℕ) → IsValidRegister bounds (register_at row r)
 
+-- what the join of two registers made of the first
+pub record JoinsRegister (bounds : List ℕ) (left right join : Register) : Type 0 where
+  pub register : IsRegister join
+  pub kept : IsValidRegister bounds left → IsValidRegister bounds join
+  pub is_join : IsValidRegister bounds left → IsValidRegister bounds right → IsJoin register_below (IsValidRegister bounds) left right join
+  pub least : IsLeast register_below (IsValidRegister bounds) left right join
+
 -- the first n registers are joined
 abbrev pub IsJoinedRow : List ℕ → ℕ → List Register → List Register → List Register → Type 0
 IsJoinedRow bounds n left right join =
-    (r : ℕ) → r < n → IsJoin register_below (IsValidRegister bounds) (register_at left r) (register_at right r) (register_at join r)
+    (r : ℕ) → r < n → JoinsRegister bounds (register_at left r) (register_at right r) (register_at join r)
 
 -- each is joined
 pub record JoinsRows (bounds : List ℕ) (left right join : List Register) : Type 0 where
   pub seventeen : length join ≡ 17
-  pub joined : (r : ℕ) → IsJoin register_below (IsValidRegister bounds) (register_at left r) (register_at right r) (register_at join r)
+  pub joined : (r : ℕ) → JoinsRegister bounds (register_at left r) (register_at right r) (register_at join r)
 
 -- the bound that each register's value names is among these
 abbrev pub IsRowAmong : List ℕ → List Register → Type 0

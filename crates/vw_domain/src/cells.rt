@@ -1,6 +1,6 @@
 ghost use Rattle.std.specs.Prelude.{◌≡◌, ◌↔◌, IsTrue};
 ghost use Rattle.vw_values.specs.Values.{IsAmong};
-ghost use Rattle.vw_domain.specs.Cells.{is_tag, value_word, value_of_word, word_of, register_of_word};
+ghost use Rattle.vw_domain.specs.Cells.{is_tag, value_word, value_of_word, register_word, register_of_word};
 ghost use Rattle.vw_domain.specs.Plain.{is_entry};
 ghost use Rattle.vw_domain.specs.Writes.{forgotten_register};
 
@@ -59,16 +59,16 @@ const _: () = prove!(size_of::<Cell>() == 32);
 impl Model for Cell {
     ghost use Rattle.std.specs.Prelude.{◌≡◌};
     ghost use Rattle.vw_domain.specs.declared.registers.Register.{Register};
-    ghost use Rattle.vw_domain.specs.Cells.{word_of, register_of_word};
+    ghost use Rattle.vw_domain.specs.Cells.{register_word, register_of_word};
     ghost use Rattle.std.proofs.Common.{ap};
 
     ghost Value = { Register };
 
     ghost view = { λ c. register_of_word c.word };
 
-    ghost invariant = { λ c. word_of (register_of_word c.word) ≡ c.word };
+    ghost invariant = { λ c. register_word (register_of_word c.word) ≡ c.word };
 
-    ghost inverse = { λ r. record { word = word_of r } };
+    ghost inverse = { λ r. record { word = register_word r } };
 
     ghost inverse_ok = { λ c h. ap (λ w. record { word = w }) h };
 }
@@ -219,8 +219,8 @@ fn value_of_word(word: &Word) -> Value
     }
 }
 
-fn word_of(register: Register) -> Word
-    ensures { result ≡ word_of register }
+fn register_word(register: Register) -> Word
+    ensures { result ≡ register_word register }
 {
     let mut word = value_word(register.value);
     if let Offset::Known(c) = register.offset {
@@ -249,7 +249,7 @@ impl Cell {
         ensures { result ≡ register }
     {
         Cell {
-            word: word_of(register),
+            word: register_word(register),
         }
     }
 

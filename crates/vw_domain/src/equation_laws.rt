@@ -12,8 +12,8 @@ use vw_values::{
     tag_tests_are_sound, values_stand,
 };
 
-// The laws of values, in one place.
-fn laws_of_values()
+/// The laws of values on which those of states rest, in one place.
+pub fn laws_of_values()
     ensures { ValueLaws }
 {
     joins_are_least();

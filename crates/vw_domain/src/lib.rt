@@ -26,7 +26,7 @@ mod writes;
 pub use branch_edges::frame_holds_places;
 pub use equation_laws::{
     branches_are_sound, calls_are_sound, edges_are_decided, instruction_ends_are_sound,
-    lower_forms_stand_for_less, state_forms_are_kept, statement_lists_are_sound,
+    laws_of_values, lower_forms_stand_for_less, state_forms_are_kept, statement_lists_are_sound,
     statements_are_sound, transfer_checks_rise,
 };
 pub use laws::{

@@ -1,6 +1,6 @@
-ghost use Rattle.std.specs.Prelude.{◌≡◌, ◌↔◌, ◌≤◌, ◌<◌, ℕ, ℤ, length, IsTrue, IfOk};
-ghost use Rattle.vw_lattice.specs.Order.{IsJoin};
-ghost use Rattle.vw_domain.specs.State.{fact_below, state_below, IsValidState, unknown_state};
+ghost use Rattle.std.specs.Prelude.{◌≡◌, ◌||◌, ◌↔◌, ◌≤◌, ◌<◌, ℕ, ℤ, length, min, IsTrue, IfOk, OnOk};
+ghost use Rattle.vw_lattice.specs.Order.{IsJoin, TellsChange};
+ghost use Rattle.vw_domain.specs.State.{fact_below, state_below, IsState, unknown_state};
 ghost use Rattle.vw_domain.specs.StateJoin.{IsFactJoin, JoinsParts};
 
 use crate::cells::Cell;
@@ -53,15 +53,28 @@ fn is_fact_below(low: Fact, high: Fact) -> bool
     }
 }
 
-// The fact of both, where they have one.
-fn fact_of_both(a: Fact, b: Fact) -> Fact
-    ensures { IsFactJoin a b result }
+// Leaves the fact where the other is the same, and answers whether it is gone.
+fn join_fact(fact: &mut Fact, other: Fact) -> bool
+    ensures joins { IsFactJoin fact.old other fact.new }
+    ensures told { TellsChange result fact.old fact.new }
 {
-    if is_fact_below(a, b) {
-        b
-    } else {
-        Fact::Unknown
+    if is_fact_below(other, *fact) {
+        return false;
     }
+    *fact = Fact::Unknown;
+    true
+}
+
+// Takes the lesser depth, and answers whether it is another.
+fn join_depth(probed: &mut u64, other: u64) -> bool
+    ensures depth { probed.new ≡ min probed.old other }
+    ensures told { TellsChange result probed.old probed.new }
+{
+    if *probed <= other {
+        return false;
+    }
+    *probed = other;
+    true
 }
 
 // Whether each part is below that of the other.
@@ -76,19 +89,35 @@ pub(crate) fn is_below(low: &Parts, high: &Parts) -> bool
         && low.written.leq(&high.written)
 }
 
-// Joins valid states part by part. Where memory is refused, nothing more is known of the parts.
-pub(crate) fn join(parts: &mut Parts, other: &Parts, bounds: &Bounds) -> Result<(), OutOfMemory>
-    requires valid { IsValidState bounds.now parts.old }
-    requires other { IsValidState bounds.now other.now }
-    ensures { IfOk result (λ _. JoinsParts bounds.now parts.old other.now parts.new) }
+// Whether one of these holds, each of which is said of a part.
+fn is_any(
+    registers: bool,
+    probed: bool,
+    written: bool,
+    slots: bool,
+    classes: bool,
+    fact: bool,
+) -> bool
+    ensures { result ≡ (registers || (probed || (written || (slots || (classes || fact))))) }
 {
-    join_rows(&mut parts.registers, &other.registers, bounds)?;
-    parts.probed = parts.probed.min(other.probed);
-    let _written = parts.written.join(&other.written, &())?;
-    let _slots = parts.slots.join(&other.slots, bounds)?;
-    let _classes = parts.classes.join(&other.classes, &())?;
-    parts.fact = fact_of_both(parts.fact, other.fact);
-    Ok(())
+    registers || probed || written || slots || classes || fact
+}
+
+// Joins states part by part, in one pass over both, and answers whether that changed a part. Where memory is refused,
+// nothing more is known of the parts.
+pub(crate) fn join(parts: &mut Parts, other: &Parts, bounds: &Bounds) -> Result<bool, OutOfMemory>
+    requires state { IsState parts.old }
+    requires other { IsState other.now }
+    ensures joins { IfOk result (λ _. JoinsParts bounds.now parts.old other.now parts.new) }
+    ensures told { IfOk result (λ changed. TellsChange changed parts.old parts.new) }
+{
+    let probed = join_depth(&mut parts.probed, other.probed);
+    let fact = join_fact(&mut parts.fact, other.fact);
+    let registers = join_rows(&mut parts.registers, &other.registers, bounds)?;
+    let slots = parts.slots.join(&other.slots, bounds)?;
+    let classes = parts.classes.join(&other.classes, &())?;
+    let written = parts.written.join(&other.written, &())?;
+    Ok(is_any(registers, probed, written, slots, classes, fact))
 }
 
 // Equal parts.
@@ -106,6 +135,20 @@ pub(crate) fn copy(parts: &Parts) -> Result<Parts, OutOfMemory>
         classes,
         fact: parts.fact,
     })
+}
+
+// Makes parts equal to others, in the memory that they have where this is enough. Where memory is refused, some of them
+// are made so.
+pub(crate) fn copy_from(parts: &mut Parts, other: &Parts) -> Result<(), OutOfMemory>
+    ensures { OnOk result (parts.new ≡ other.now) }
+{
+    parts.slots = other.slots.copy()?;
+    parts.written.copy_from(&other.written)?;
+    parts.classes.copy_from(&other.classes)?;
+    parts.registers = other.registers;
+    parts.probed = other.probed;
+    parts.fact = other.fact;
+    Ok(())
 }
 
 // The parts of the state in which nothing is known. Takes no memory.

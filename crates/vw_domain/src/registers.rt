@@ -1,6 +1,6 @@
 ghost use Rattle.std.specs.Prelude.{◌≡◌, ◌↔◌, ◌≤◌, ◌<◌, ℕ, length, IsTrue, IfOk};
-ghost use Rattle.vw_lattice.specs.Order.{IsJoin};
-ghost use Rattle.vw_domain.specs.Registers.{IsValidRegister, register_below, register_at, row_below, IsRow, IsValidRow, JoinsRows, IsRowAmong};
+ghost use Rattle.vw_lattice.specs.Order.{IsJoin, TellsChange};
+ghost use Rattle.vw_domain.specs.Registers.{IsRegister, IsValidRegister, register_below, register_at, row_below, IsRow, JoinsRegister, JoinsRows, IsRowAmong};
 
 use crate::cells::Cell;
 use vw_bits::OutOfMemory;
@@ -44,8 +44,8 @@ fn join_parts(
     other: &Register,
     bounds: &Bounds,
 ) -> Result<Register, OutOfMemory>
-    requires valid { IsValidRegister bounds.now register }
-    requires other { IsValidRegister bounds.now other.now }
+    requires register { IsRegister register }
+    requires other { IsRegister other.now }
     ensures { IfOk result (λ join. IsJoin register_below (IsValidRegister bounds.now) register other.now join) }
 {
     let mut offset = register.offset;
@@ -55,32 +55,40 @@ fn join_parts(
     Ok(Register { offset, value })
 }
 
-// Joins what is known of a register twice. Where one is below the other, which is most often so, it is the other, and
-// nothing is joined.
-fn join_cell(cell: &mut Cell, other: &Cell, bounds: &Bounds) -> Result<(), OutOfMemory>
-    requires valid { IsValidRegister bounds.now cell.old }
-    requires other { IsValidRegister bounds.now other.now }
-    ensures { IfOk result (λ _. IsJoin register_below (IsValidRegister bounds.now) cell.old other.now cell.new) }
+// Joins what is known of a register twice, and answers whether that changed the first. Cells are most often equal, and
+// then nothing is unpacked.
+fn join_cell(cell: &mut Cell, other: &Cell, bounds: &Bounds) -> Result<bool, OutOfMemory>
+    requires cell { IsRegister cell.old }
+    requires other { IsRegister other.now }
+    ensures joins { IfOk result (λ _. JoinsRegister bounds.now cell.old other.now cell.new) }
+    ensures told { IfOk result (λ changed. TellsChange changed cell.old cell.new) }
 {
-    if is_cell_below(other, cell) {
-        return Ok(());
+    if cell.is_same(other) {
+        return Ok(false);
     }
     join_other(cell, other, bounds)
 }
 
+// Where one is below the other, which is most often so, it is the other, and nothing is joined.
 #[inline(never)]
-fn join_other(cell: &mut Cell, other: &Cell, bounds: &Bounds) -> Result<(), OutOfMemory>
-    requires valid { IsValidRegister bounds.now cell.old }
-    requires other { IsValidRegister bounds.now other.now }
-    ensures { IfOk result (λ _. IsJoin register_below (IsValidRegister bounds.now) cell.old other.now cell.new) }
+fn join_other(cell: &mut Cell, other: &Cell, bounds: &Bounds) -> Result<bool, OutOfMemory>
+    requires cell { IsRegister cell.old }
+    requires other { IsRegister other.now }
+    ensures joins { IfOk result (λ _. JoinsRegister bounds.now cell.old other.now cell.new) }
+    ensures told { IfOk result (λ changed. TellsChange changed cell.old cell.new) }
 {
-    if are_parts_below(cell, other) {
-        *cell = *other;
-        return Ok(());
+    let mine = cell.register();
+    let theirs = other.register();
+    if is_register_below(&theirs, &mine) {
+        return Ok(false);
     }
-    let join = join_parts(cell.register(), &other.register(), bounds)?;
+    if is_register_below(&mine, &theirs) && other.is_among(bounds) {
+        *cell = *other;
+        return Ok(true);
+    }
+    let join = join_parts(mine, &theirs, bounds)?;
     *cell = Cell::of(join);
-    Ok(())
+    Ok(true)
 }
 
 // How far a register is from the value that rsp had at the function's entry.
@@ -111,22 +119,24 @@ pub(crate) fn is_row_below(low: &[Cell; 17], high: &[Cell; 17]) -> bool
     true
 }
 
-// Joins each of seventeen registers with that of the other row.
+// Joins each of seventeen registers with that of the other row, and answers whether that changed one.
 pub(crate) fn join_rows(
     row: &mut [Cell],
     other: &[Cell],
     bounds: &Bounds,
-) -> Result<(), OutOfMemory>
-    requires row { length row.old ≡ 17 }
-    requires other { length other.now ≡ 17 }
-    requires valid { IsValidRow bounds.now row.old }
-    requires valid_other { IsValidRow bounds.now other.now }
-    ensures { IfOk result (λ _. JoinsRows bounds.now row.old other.now row.new) }
+) -> Result<bool, OutOfMemory>
+    requires row { IsRow row.old }
+    requires other { IsRow other.now }
+    ensures joins { IfOk result (λ _. JoinsRows bounds.now row.old other.now row.new) }
+    ensures told { IfOk result (λ changed. TellsChange changed row.old row.new) }
 {
+    let mut changed = false;
     for i in 0..17 {
-        join_cell(&mut row[i], &other[i], bounds)?;
+        if join_cell(&mut row[i], &other[i], bounds)? {
+            changed = true;
+        }
     }
-    Ok(())
+    Ok(changed)
 }
 
 // Whether the bound that each register's value names is among these.

@@ -1,9 +1,9 @@
-ghost use Rattle.std.specs.Prelude.{◌≡◌, ◌↔◌, IsTrue, IfOk};
-ghost use Rattle.vw_domain.specs.State.{Fits, IsState, IsValidState, state_below, state_rank, plain_register, entry_state};
+ghost use Rattle.std.specs.Prelude.{◌≡◌, ◌↔◌, IsTrue, IfOk, OnOk, OnErr};
+ghost use Rattle.vw_domain.specs.State.{Fits, IsState, IsValidState, state_below, state_rank, plain_register, entry_state, unknown_state};
 ghost use Rattle.vw_domain.specs.StateOrder.{state_reflexive, state_transitive, state_antisymmetric, state_falls, state_strict};
 
 use crate::cells::Cell;
-use crate::parts::{Parts, copy, is_below, join, unknown_parts};
+use crate::parts::{Parts, copy, copy_from, is_below, join, unknown_parts};
 use crate::registers::{Register, is_row_among};
 use crate::slots::are_slots_among;
 use std::alloc::Global;
@@ -57,12 +57,30 @@ impl State {
         let parts: &Parts = &self.parts;
         is_row_among(&parts.registers, bounds) && are_slots_among(&parts.slots, bounds)
     }
+
+    /// Makes the state equal to another one, in the memory that it has where this is enough. Where memory is refused,
+    /// nothing is known in it.
+    pub fn copy_from(&mut self, other: &State) -> Result<(), OutOfMemory>
+        ensures ok { OnOk result (self.new ≡ other.now) }
+        ensures err { OnErr result (self.new ≡ unknown_state) }
+    {
+        let alloc = *Box::allocator(&self.parts);
+        match copy_from(&mut self.parts, &other.parts) {
+            Ok(()) => Ok(()),
+            Err(error) => {
+                *self.parts = unknown_parts(alloc);
+                Err(error)
+            }
+        }
+    }
 }
 
 impl Lattice for State {
     type Bounds = Bounds;
 
     ghost valid = { IsValidState };
+
+    ghost well_formed = { IsState };
 
     ghost below = { state_below };
 
@@ -73,19 +91,10 @@ impl Lattice for State {
     }
 
     fn join(&mut self, other: &Self, bounds: &Bounds) -> Result<bool, OutOfMemory> {
-        if other.leq(self) {
-            return Ok(false);
-        }
-        if !self.fits(bounds) {
-            return Ok(false);
-        }
-        if !other.fits(bounds) {
-            return Ok(false);
-        }
         bounds.are_bounds();
         let alloc = *Box::allocator(&self.parts);
         match join(&mut self.parts, &other.parts, bounds) {
-            Ok(()) => Ok(true),
+            Ok(changed) => Ok(changed),
             Err(error) => {
                 *self.parts = unknown_parts(alloc);
                 Err(error)

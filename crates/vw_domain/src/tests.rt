@@ -58,6 +58,9 @@ fn copies_and_compares(rt: HostRuntime) -> Result<(), Fail> {
     state.compare(Spot::Reg(0), 32, 7)?;
     assert!(rt; state.value(Spot::Reg(0)) == Value::HeapBase);
     assert!(rt; state.same(Spot::Flags, Spot::Reg(7)));
+    let mut other = entry_state(rt.alloc())?;
+    other.copy_from(&state)?;
+    assert!(rt; other.leq(&state) && state.leq(&other));
     state.clear_flags();
     assert!(rt; !state.same(Spot::Flags, Spot::Reg(7)));
     Ok(())

@@ -5,7 +5,7 @@ use Rattle.std.specs.List.{All}
 use Rattle.std.proofs.lemmas.List.{get_or_append_left, get_or_push, length_push, length-take, get_or-take, same_from_push, take-append-drop}
 use Rattle.std.proofs.lemmas.List.Elements.{All-push}
 use Rattle.std.proofs.lemmas.List.Quantifiers.{all_pairs_push}
-use Rattle.vw_lattice.specs.Order.{IsJoin, TellsChange}
+use Rattle.vw_lattice.specs.Order.{IsJoin, IsLeast, TellsChange}
 use Rattle.vw_lattice.specs.Entries.{IsAscending, value_at, map_below, IsValidMap, HasKey}
 use Rattle.vw_lattice.specs.EntryOrder.{value_at_here, value_at_there, same_or_not, value_at_absent, apart_from_lt, value_at_append_found, value_at_append_absent}
 use Rattle.vw_lattice.specs.Joined.{Joined, JoinsValue, JoinedFront, none, keep, omit}
@@ -35,8 +35,23 @@ all_last {X} P front last all =
 absent_from_below : {V : Type 0} (entries : List (ℤ × V)) (key : ℤ) → All (λ e. e.0 <ℤ key) entries → value_at entries key ≡ None
 absent_from_below entries key below = value_at_absent entries key (λ k d within. apart_from_lt (get_or entries k d).0 key (below k d within))
 
-module _ {V : Type 0} (below : V → V → Type 0) (is_valid : V → Type 0) (look : ℤ → Option V) where
-  keys_below : (old new : List (ℤ × V)) (changed : Bool) → Joined below is_valid look old new changed → (key : ℤ) → All (λ e. e.0 <ℤ key) old → All (λ e. e.0 <ℤ key) new
+-- where the other value is below, the first stays as it is
+pub stays : {V : Type 0} (below : V → V → Type 0) (is_valid is_formed : V → Type 0) (old other : V) → (is_valid old → below old old) → below other old → JoinsValue below is_valid is_formed old other old false
+stays below is_valid is_formed old other reflexive under = record {
+  kept = λ valid. valid;
+  join = λ valid valid_other. record {
+    valid = valid;
+    above_left = reflexive valid;
+    above_right = under;
+    least = λ bound valid_bound over_old over_other. over_old;
+  };
+  told = refl;
+  formed = λ formed formed_other. formed;
+  least = λ formed formed_other bound valid_bound over_old over_other. over_old;
+}
+
+module _ {V : Type 0} (below : V → V → Type 0) (is_valid is_formed : V → Type 0) (look : ℤ → Option V) where
+  keys_below : (old new : List (ℤ × V)) (changed : Bool) → Joined below is_valid is_formed look old new changed → (key : ℤ) → All (λ e. e.0 <ℤ key) old → All (λ e. e.0 <ℤ key) new
   keys_below old new changed none key all = all
   keys_below old new changed (keep olds news c entry other value raised front found joins) key all =
       let P : ℤ × V → Type 0 = λ e. e.0 <ℤ key in
@@ -45,14 +60,14 @@ module _ {V : Type 0} (below : V → V → Type 0) (is_valid : V → Type 0) (lo
       let P : ℤ × V → Type 0 = λ e. e.0 <ℤ key in
       keys_below olds news c front key (all_front P olds entry all)
 
-  pub joined_ascending : (old new : List (ℤ × V)) (changed : Bool) → Joined below is_valid look old new changed → IsAscending old → IsAscending new
+  pub joined_ascending : (old new : List (ℤ × V)) (changed : Bool) → Joined below is_valid is_formed look old new changed → IsAscending old → IsAscending new
   joined_ascending old new changed none ascends = ascends
   joined_ascending old new changed (keep olds news c entry other value raised front found joins) ascends =
       let R : ℤ × V → ℤ × V → Type 0 = λ e f. e.0 <ℤ f.0 in
       all_pairs_push R news (entry.0, value) (joined_ascending olds news c front (ascending_front olds entry ascends)) (λ k d within. keys_below olds news c front entry.0 (below_last olds entry ascends) k d within)
   joined_ascending old new changed (omit olds news c entry front gone) ascends = joined_ascending olds news c front (ascending_front olds entry ascends)
 
-  joined_length : (old new : List (ℤ × V)) (changed : Bool) → Joined below is_valid look old new changed → length new ≤ length old
+  joined_length : (old new : List (ℤ × V)) (changed : Bool) → Joined below is_valid is_formed look old new changed → length new ≤ length old
   joined_length old new changed none = omega arith
   joined_length old new changed (keep olds news c entry other value raised front found joins) =
       omega (arith, joined_length olds news c front, length_push olds entry, length_push news (entry.0, value))
@@ -67,7 +82,7 @@ module _ {V : Type 0} (below : V → V → Type 0) (is_valid : V → Type 0) (lo
       let with_front : List (ℤ × V) → List (ℤ × V) = λ f. f ++ entry ∷ [] in
       ap with_value last ∙ ap with_front front
 
-  pub joined_told : (old new : List (ℤ × V)) (changed : Bool) → Joined below is_valid look old new changed → TellsChange changed old new
+  pub joined_told : (old new : List (ℤ × V)) (changed : Bool) → Joined below is_valid is_formed look old new changed → TellsChange changed old new
   joined_told old new changed none = refl
   joined_told old new changed (keep olds news c entry other value raised front found joins) =
       kept_told c raised olds news entry value (joined_told olds news c front) joins.told
@@ -81,7 +96,7 @@ module _ {V : Type 0} (below : V → V → Type 0) (is_valid : V → Type 0) (lo
     pub raised : Bool
     pub found : value_at old key ≡ Some mine
     pub looked : look key ≡ Some theirs
-    pub joins : JoinsValue below is_valid mine theirs new raised
+    pub joins : JoinsValue below is_valid is_formed mine theirs new raised
 
   comes_later : (olds : List (ℤ × V)) (entry : ℤ × V) (key : ℤ) (new : V) → ComesFrom olds key new → ComesFrom (olds ++ entry ∷ []) key new
   comes_later olds entry key new from = record {
@@ -93,7 +108,7 @@ module _ {V : Type 0} (below : V → V → Type 0) (is_valid : V → Type 0) (lo
     joins = from.joins;
   }
 
-  pub joined_from : (old new : List (ℤ × V)) (changed : Bool) → Joined below is_valid look old new changed → IsAscending old → (key : ℤ) (value : V) → value_at new key ≡ Some value → ComesFrom old key value
+  pub joined_from : (old new : List (ℤ × V)) (changed : Bool) → Joined below is_valid is_formed look old new changed → IsAscending old → (key : ℤ) (value : V) → value_at new key ≡ Some value → ComesFrom old key value
   joined_from old new changed none ascends key value present = absurd (cc)
   joined_from old new changed (keep olds news c entry other u raised front found joins) ascends key value present =
       elim (found_or_not (value_at news key)) [
@@ -131,9 +146,9 @@ module _ {V : Type 0} (below : V → V → Type 0) (is_valid : V → Type 0) (lo
     pub value : V
     pub raised : Bool
     pub present : value_at new key ≡ Some value
-    pub joins : JoinsValue below is_valid mine theirs value raised
+    pub joins : JoinsValue below is_valid is_formed mine theirs value raised
 
-  pub joined_to : (old new : List (ℤ × V)) (changed : Bool) → Joined below is_valid look old new changed → IsAscending old → (key : ℤ) (mine theirs : V) → value_at old key ≡ Some mine → look key ≡ Some theirs → GoesTo new key mine theirs
+  pub joined_to : (old new : List (ℤ × V)) (changed : Bool) → Joined below is_valid is_formed look old new changed → IsAscending old → (key : ℤ) (mine theirs : V) → value_at old key ≡ Some mine → look key ≡ Some theirs → GoesTo new key mine theirs
   joined_to old new changed none ascends key mine theirs present looked = absurd (cc)
   joined_to old new changed (keep olds news c entry other u raised front found joins) ascends key mine theirs present looked =
       elim (found_or_not (value_at olds key)) [
@@ -151,8 +166,8 @@ module _ {V : Type 0} (below : V → V → Type 0) (is_valid : V → Type 0) (lo
                   let is_mine : entry.1 ≡ mine = cc in
                   let there : Some other ≡ Some theirs = sym found ∙ ap look same ∙ looked in
                   let is_theirs : other ≡ theirs = cc in
-                  let M : V → Type 0 = λ v. JoinsValue below is_valid v theirs u raised in
-                  let T : V → Type 0 = λ v. JoinsValue below is_valid entry.1 v u raised in
+                  let M : V → Type 0 = λ v. JoinsValue below is_valid is_formed v theirs u raised in
+                  let T : V → Type 0 = λ v. JoinsValue below is_valid is_formed entry.1 v u raised in
                   let front_below = keys_below olds news c front entry.0 (below_last olds entry ascends) in
                   let at_key : ℤ → Type 0 = λ k. value_at (news ++ (entry.0, u) ∷ []) k ≡ Some u in
                   record {
@@ -184,7 +199,7 @@ module _ {V : Type 0} (below : V → V → Type 0) (is_valid : V → Type 0) (lo
       ]
 
   -- what joining made of a valid map is valid, whatever the other map was
-  pub joined_valid : (old new : List (ℤ × V)) (changed : Bool) → Joined below is_valid look old new changed → IsValidMap is_valid old → IsValidMap is_valid new
+  pub joined_valid : (old new : List (ℤ × V)) (changed : Bool) → Joined below is_valid is_formed look old new changed → IsValidMap is_valid old → IsValidMap is_valid new
   joined_valid old new changed joined valid = record {
     ascending = joined_ascending old new changed joined valid.ascending;
     values = λ key value present.
@@ -203,30 +218,51 @@ valid_take {V} is_valid count entries valid = record {
 }
 
 -- joining a front of a valid map, and dropping the rest, leaves a valid map
-pub front_valid : {V : Type 0} (below : V → V → Type 0) (is_valid : V → Type 0) (look : ℤ → Option V) (count : ℕ) (old new : List (ℤ × V)) (changed : Bool) → Joined below is_valid look (take count old) new changed → IsValidMap is_valid old → IsValidMap is_valid new
-front_valid below is_valid look count old new changed joined valid = joined_valid below is_valid look (take count old) new changed joined (valid_take is_valid count old valid)
+pub front_valid : {V : Type 0} (below : V → V → Type 0) (is_valid is_formed : V → Type 0) (look : ℤ → Option V) (count : ℕ) (old new : List (ℤ × V)) (changed : Bool) → Joined below is_valid is_formed look (take count old) new changed → IsValidMap is_valid old → IsValidMap is_valid new
+front_valid below is_valid is_formed look count old new changed joined valid = joined_valid below is_valid is_formed look (take count old) new changed joined (valid_take is_valid count old valid)
 
 -- the join of two valid maps is their least valid upper bound
-pub joined_is_join : {V : Type 0} (below : V → V → Type 0) (is_valid : V → Type 0) (old other new : List (ℤ × V)) (changed : Bool) → Joined below is_valid (value_at other) old new changed → IsValidMap is_valid old → IsValidMap is_valid other → IsJoin (map_below below) (IsValidMap is_valid) old other new
-joined_is_join {V} below is_valid old other new changed joined valid_old valid_other =
+pub joined_is_join : {V : Type 0} (below : V → V → Type 0) (is_valid is_formed : V → Type 0) (old other new : List (ℤ × V)) (changed : Bool) → Joined below is_valid is_formed (value_at other) old new changed → IsValidMap is_valid old → IsValidMap is_valid other → IsJoin (map_below below) (IsValidMap is_valid) old other new
+joined_is_join {V} below is_valid is_formed old other new changed joined valid_old valid_other =
     let look : ℤ → Option V = value_at other in
     record {
-      valid = joined_valid below is_valid look old new changed joined valid_old;
+      valid = joined_valid below is_valid is_formed look old new changed joined valid_old;
       above_left = λ key value present.
-          let from = joined_from below is_valid look old new changed joined valid_old.ascending key value present in
+          let from = joined_from below is_valid is_formed look old new changed joined valid_old.ascending key value present in
           let join = from.joins.join (valid_old.values key from.mine from.found) (valid_other.values key from.theirs from.looked) in
           (from.mine, from.found, join.above_left);
       above_right = λ key value present.
-          let from = joined_from below is_valid look old new changed joined valid_old.ascending key value present in
+          let from = joined_from below is_valid is_formed look old new changed joined valid_old.ascending key value present in
           let join = from.joins.join (valid_old.values key from.mine from.found) (valid_other.values key from.theirs from.looked) in
           (from.theirs, from.looked, join.above_right);
       least = λ bound valid_bound over_old over_other. λ key value present.
           let mine = over_old key value present in
           let theirs = over_other key value present in
-          let to = joined_to below is_valid look old new changed joined valid_old.ascending key mine.0 theirs.0 mine.1 theirs.1 in
+          let to = joined_to below is_valid is_formed look old new changed joined valid_old.ascending key mine.0 theirs.0 mine.1 theirs.1 in
           let join = to.joins.join (valid_old.values key mine.0 mine.1) (valid_other.values key theirs.0 theirs.1) in
           (to.value, to.present, join.least value (valid_bound.values key value present) mine.2 theirs.2);
     }
+
+-- the join of two well-formed maps is well-formed
+joined_formed : {V : Type 0} (below : V → V → Type 0) (is_valid is_formed : V → Type 0) (old other new : List (ℤ × V)) (changed : Bool) → Joined below is_valid is_formed (value_at other) old new changed → IsValidMap is_formed old → IsValidMap is_formed other → IsValidMap is_formed new
+joined_formed {V} below is_valid is_formed old other new changed joined formed formed_other =
+    let look : ℤ → Option V = value_at other in
+    record {
+      ascending = joined_ascending below is_valid is_formed look old new changed joined formed.ascending;
+      values = λ key value present.
+          let from = joined_from below is_valid is_formed look old new changed joined formed.ascending key value present in
+          from.joins.formed (formed.values key from.mine from.found) (formed_other.values key from.theirs from.looked);
+    }
+
+-- and is below each valid map above both
+joined_least : {V : Type 0} (below : V → V → Type 0) (is_valid is_formed : V → Type 0) (old other new : List (ℤ × V)) (changed : Bool) → Joined below is_valid is_formed (value_at other) old new changed → IsValidMap is_formed old → IsValidMap is_formed other → IsLeast (map_below below) (IsValidMap is_valid) old other new
+joined_least {V} below is_valid is_formed old other new changed joined formed formed_other = λ bound valid_bound over_old over_other. λ key value present.
+    let look : ℤ → Option V = value_at other in
+    let mine = over_old key value present in
+    let theirs = over_other key value present in
+    let to = joined_to below is_valid is_formed look old new changed joined formed.ascending key mine.0 theirs.0 mine.1 theirs.1 in
+    let least = to.joins.least (formed.values key mine.0 mine.1) (formed_other.values key theirs.0 theirs.1) in
+    (to.value, to.present, least value (valid_bound.values key value present) mine.2 theirs.2)
 
 ascending_take : {V : Type 0} (count : ℕ) (entries : List (ℤ × V)) → IsAscending entries → IsAscending (take count entries)
 ascending_take {V} count entries ascends = λ i j d before within.
@@ -236,43 +272,57 @@ ascending_take {V} count entries ascends = λ i j d before within.
 
 -- ---- the same, of the answer of a join: Ok of whether it changed, or an error after a front
 
-pub answer_ascending : {V E : Type 0} (below : V → V → Type 0) (is_valid : V → Type 0) (look : ℤ → Option V) (old new : List (ℤ × V)) (answer : Result Bool E) → IfOk answer (λ changed. Joined below is_valid look old new changed) → OnErr answer (JoinedFront below is_valid look old new) → IsAscending old → IsAscending new
-answer_ascending below is_valid look old new (Ok changed) ok err ascends = joined_ascending below is_valid look old new changed ok ascends
-answer_ascending below is_valid look old new (Err _) ok err ascends = joined_ascending below is_valid look (take err.count old) new err.changed err.joined (ascending_take err.count old ascends)
+pub answer_ascending : {V E : Type 0} (below : V → V → Type 0) (is_valid is_formed : V → Type 0) (look : ℤ → Option V) (old new : List (ℤ × V)) (answer : Result Bool E) → IfOk answer (λ changed. Joined below is_valid is_formed look old new changed) → OnErr answer (JoinedFront below is_valid is_formed look old new) → IsAscending old → IsAscending new
+answer_ascending below is_valid is_formed look old new (Ok changed) ok err ascends = joined_ascending below is_valid is_formed look old new changed ok ascends
+answer_ascending below is_valid is_formed look old new (Err _) ok err ascends = joined_ascending below is_valid is_formed look (take err.count old) new err.changed err.joined (ascending_take err.count old ascends)
 
-pub answer_kept : {V E : Type 0} (below : V → V → Type 0) (is_valid : V → Type 0) (look : ℤ → Option V) (old new whole : List (ℤ × V)) (answer : Result Bool E) → old ≡ whole → IfOk answer (λ changed. Joined below is_valid look old new changed) → OnErr answer (JoinedFront below is_valid look old new) → IsValidMap is_valid whole → IsValidMap is_valid new
-answer_kept {V} below is_valid look old new whole (Ok changed) lists ok err valid =
-    let J : List (ℤ × V) → Type 0 = λ os. Joined below is_valid look os new changed in
-    joined_valid below is_valid look whole new changed (subst J lists ok) valid
-answer_kept {V} below is_valid look old new whole (Err _) lists ok err valid =
-    let J : List (ℤ × V) → Type 0 = λ os. JoinedFront below is_valid look os new in
+pub answer_kept : {V E : Type 0} (below : V → V → Type 0) (is_valid is_formed : V → Type 0) (look : ℤ → Option V) (old new whole : List (ℤ × V)) (answer : Result Bool E) → old ≡ whole → IfOk answer (λ changed. Joined below is_valid is_formed look old new changed) → OnErr answer (JoinedFront below is_valid is_formed look old new) → IsValidMap is_valid whole → IsValidMap is_valid new
+answer_kept {V} below is_valid is_formed look old new whole (Ok changed) lists ok err valid =
+    let J : List (ℤ × V) → Type 0 = λ os. Joined below is_valid is_formed look os new changed in
+    joined_valid below is_valid is_formed look whole new changed (subst J lists ok) valid
+answer_kept {V} below is_valid is_formed look old new whole (Err _) lists ok err valid =
+    let J : List (ℤ × V) → Type 0 = λ os. JoinedFront below is_valid is_formed look os new in
     let front = subst J lists err in
-    front_valid below is_valid look front.count whole new front.changed front.joined valid
+    front_valid below is_valid is_formed look front.count whole new front.changed front.joined valid
 
-pub answer_join : {V E : Type 0} (below : V → V → Type 0) (is_valid : V → Type 0) (old lent other new whole : List (ℤ × V)) (answer : Result Bool E) → old ≡ whole → lent ≡ other → IfOk answer (λ changed. Joined below is_valid (value_at lent) old new changed) → OnOk answer (IsValidMap is_valid whole → IsValidMap is_valid other → IsJoin (map_below below) (IsValidMap is_valid) whole other new)
-answer_join {V} below is_valid old lent other new whole (Ok changed) lists lents ok = λ valid valid_other.
-    let J : List (ℤ × V) → Type 0 = λ os. Joined below is_valid (value_at lent) os new changed in
-    let K : List (ℤ × V) → Type 0 = λ ls. Joined below is_valid (value_at ls) whole new changed in
-    joined_is_join below is_valid whole other new changed (subst K lents (subst J lists ok)) valid valid_other
-answer_join below is_valid old lent other new whole (Err _) lists lents ok = tt
+pub answer_join : {V E : Type 0} (below : V → V → Type 0) (is_valid is_formed : V → Type 0) (old lent other new whole : List (ℤ × V)) (answer : Result Bool E) → old ≡ whole → lent ≡ other → IfOk answer (λ changed. Joined below is_valid is_formed (value_at lent) old new changed) → OnOk answer (IsValidMap is_valid whole → IsValidMap is_valid other → IsJoin (map_below below) (IsValidMap is_valid) whole other new)
+answer_join {V} below is_valid is_formed old lent other new whole (Ok changed) lists lents ok = λ valid valid_other.
+    let J : List (ℤ × V) → Type 0 = λ os. Joined below is_valid is_formed (value_at lent) os new changed in
+    let K : List (ℤ × V) → Type 0 = λ ls. Joined below is_valid is_formed (value_at ls) whole new changed in
+    joined_is_join below is_valid is_formed whole other new changed (subst K lents (subst J lists ok)) valid valid_other
+answer_join below is_valid is_formed old lent other new whole (Err _) lists lents ok = tt
 
-pub answer_told : {V E : Type 0} (below : V → V → Type 0) (is_valid : V → Type 0) (look : ℤ → Option V) (old new whole : List (ℤ × V)) (answer : Result Bool E) → old ≡ whole → IfOk answer (λ changed. Joined below is_valid look old new changed) → IfOk answer (λ changed. TellsChange changed whole new)
-answer_told {V} below is_valid look old new whole (Ok changed) lists ok =
-    let J : List (ℤ × V) → Type 0 = λ os. Joined below is_valid look os new changed in
-    joined_told below is_valid look whole new changed (subst J lists ok)
-answer_told below is_valid look old new whole (Err _) lists ok = tt
+pub answer_told : {V E : Type 0} (below : V → V → Type 0) (is_valid is_formed : V → Type 0) (look : ℤ → Option V) (old new whole : List (ℤ × V)) (answer : Result Bool E) → old ≡ whole → IfOk answer (λ changed. Joined below is_valid is_formed look old new changed) → IfOk answer (λ changed. TellsChange changed whole new)
+answer_told {V} below is_valid is_formed look old new whole (Ok changed) lists ok =
+    let J : List (ℤ × V) → Type 0 = λ os. Joined below is_valid is_formed look os new changed in
+    joined_told below is_valid is_formed look whole new changed (subst J lists ok)
+answer_told below is_valid is_formed look old new whole (Err _) lists ok = tt
+
+pub answer_formed : {V E : Type 0} (below : V → V → Type 0) (is_valid is_formed : V → Type 0) (old lent other new whole : List (ℤ × V)) (answer : Result Bool E) → old ≡ whole → lent ≡ other → IfOk answer (λ changed. Joined below is_valid is_formed (value_at lent) old new changed) → OnOk answer (IsValidMap is_formed whole → IsValidMap is_formed other → IsValidMap is_formed new)
+answer_formed {V} below is_valid is_formed old lent other new whole (Ok changed) lists lents ok = λ formed formed_other.
+    let A : List (ℤ × V) → Type 0 = λ es. IsValidMap is_formed es in
+    joined_formed below is_valid is_formed old lent new changed ok (subst A (sym lists) formed) (subst A (sym lents) formed_other)
+answer_formed below is_valid is_formed old lent other new whole (Err _) lists lents ok = tt
+
+pub answer_least : {V E : Type 0} (below : V → V → Type 0) (is_valid is_formed : V → Type 0) (old lent other new whole : List (ℤ × V)) (answer : Result Bool E) → old ≡ whole → lent ≡ other → IfOk answer (λ changed. Joined below is_valid is_formed (value_at lent) old new changed) → OnOk answer (IsValidMap is_formed whole → IsValidMap is_formed other → IsLeast (map_below below) (IsValidMap is_valid) whole other new)
+answer_least {V} below is_valid is_formed old lent other new whole (Ok changed) lists lents ok = λ formed formed_other.
+    let A : List (ℤ × V) → Type 0 = λ es. IsValidMap is_formed es in
+    let L : List (ℤ × V) → Type 0 = λ es. IsLeast (map_below below) (IsValidMap is_valid) es other new in
+    let R : List (ℤ × V) → Type 0 = λ es. IsLeast (map_below below) (IsValidMap is_valid) old es new in
+    subst L lists (subst R lents (joined_least below is_valid is_formed old lent new changed ok (subst A (sym lists) formed) (subst A (sym lents) formed_other)))
+answer_least below is_valid is_formed old lent other new whole (Err _) lists lents ok = tt
 
 -- the keys of a join are those of both
-pub answer_keys : {V E : Type 0} (below : V → V → Type 0) (is_valid : V → Type 0) (old lent other new whole : List (ℤ × V)) (answer : Result Bool E) → old ≡ whole → lent ≡ other → IsAscending old → IfOk answer (λ changed. Joined below is_valid (value_at lent) old new changed) → OnOk answer ((key : ℤ) → HasKey new key ↔ (HasKey whole key × HasKey other key))
-answer_keys {V} below is_valid old lent other new whole (Ok changed) lists lents ascends ok = λ key.
+pub answer_keys : {V E : Type 0} (below : V → V → Type 0) (is_valid is_formed : V → Type 0) (old lent other new whole : List (ℤ × V)) (answer : Result Bool E) → old ≡ whole → lent ≡ other → IsAscending old → IfOk answer (λ changed. Joined below is_valid is_formed (value_at lent) old new changed) → OnOk answer ((key : ℤ) → HasKey new key ↔ (HasKey whole key × HasKey other key))
+answer_keys {V} below is_valid is_formed old lent other new whole (Ok changed) lists lents ascends ok = λ key.
     let H : List (ℤ × V) → Type 0 = λ es. HasKey es key in (
       λ has.
-          let from = joined_from below is_valid (value_at lent) old new changed ok ascends key has.0 has.1 in
+          let from = joined_from below is_valid is_formed (value_at lent) old new changed ok ascends key has.0 has.1 in
           (subst H lists (from.mine, from.found), subst H lents (from.theirs, from.looked)),
       λ both.
           let mine = subst H (sym lists) both.0 in
           let theirs = subst H (sym lents) both.1 in
-          let to = joined_to below is_valid (value_at lent) old new changed ok ascends key mine.0 theirs.0 mine.1 theirs.1 in
+          let to = joined_to below is_valid is_formed (value_at lent) old new changed ok ascends key mine.0 theirs.0 mine.1 theirs.1 in
           (to.value, to.present),
     )
-answer_keys below is_valid old lent other new whole (Err _) lists lents ascends ok = tt
+answer_keys below is_valid is_formed old lent other new whole (Err _) lists lents ascends ok = tt

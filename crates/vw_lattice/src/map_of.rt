@@ -1,7 +1,7 @@
 ghost use Rattle.std.specs.Prelude.{◌≡◌, ◌≢◌, ◌<◌, ◌≤◌, ◌≤ℤ◌, ◌<ℤ◌, ◌⊎◌, ℤ, [], length, IsTrue, ◌↔◌, Some, None, MatchOption, IfOk, OnOk, OnErr, slice_get};
 ghost use Rattle.std.specs.Option.{option_copied};
 ghost use Rattle.vw_lattice.specs.Entries.{IsAscending, value_at, IsBelowAt, map_below, IsValidMap, map_rank, HasKey, with_value};
-ghost use Rattle.vw_lattice.specs.Order.{IsJoin, TellsChange};
+ghost use Rattle.vw_lattice.specs.Order.{IsJoin, IsLeast, TellsChange};
 ghost use Rattle.vw_lattice.specs.EntryOrder.{value_laws, map_reflexive, map_transitive, map_antisymmetric, map_ranks};
 
 use crate::Lattice;
@@ -151,6 +151,8 @@ impl<V: Lattice> Lattice for MapOf<V> {
 
     ghost valid = { λ bounds map. IsValidMap (V.valid bounds) map };
 
+    ghost well_formed = { IsValidMap V.well_formed };
+
     ghost below = { map_below V.below };
 
     ghost rank = { λ bounds map. map_rank (V.rank bounds) map };
@@ -169,6 +171,10 @@ impl<V: Lattice> Lattice for MapOf<V> {
         ensures join { OnOk result (IsValidMap (V.valid bounds.now) self.old → IsValidMap (V.valid bounds.now) other.now
             → IsJoin (map_below V.below) (IsValidMap (V.valid bounds.now)) self.old other.now self.new) }
         ensures changed { IfOk result (λ changed. TellsChange changed self.old self.new) }
+        ensures formed { OnOk result (IsValidMap V.well_formed self.old → IsValidMap V.well_formed other.now
+            → IsValidMap V.well_formed self.new) }
+        ensures least { OnOk result (IsValidMap V.well_formed self.old → IsValidMap V.well_formed other.now
+            → IsLeast (map_below V.below) (IsValidMap (V.valid bounds.now)) self.old other.now self.new) }
         ensures keys { OnOk result ((key : ℤ) → HasKey self.new key ↔ (HasKey self.old key × HasKey other.now key)) }
     {
         join_entries(&mut self.entries, other.entries.as_slice(), bounds)

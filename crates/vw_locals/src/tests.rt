@@ -58,7 +58,11 @@ fn orders_and_joins(rt: HostRuntime) -> Result<(), Fail> {
     );
     assert!(rt; less.leq(&more) && !more.leq(&less));
     assert!(rt; !more.join(&less, &())?);
-    let same = more.copy()?;
+    let mut same = more.copy()?;
     assert!(rt; same.leq(&more) && more.leq(&same));
+    for other in [less, Written::new(rt.alloc())] {
+        same.copy_from(&other)?;
+        assert!(rt; same.leq(&other) && other.leq(&same));
+    }
     Ok(())
 }

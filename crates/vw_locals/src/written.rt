@@ -1,5 +1,5 @@
 ghost use Rattle.std.specs.Prelude.{◌≡◌, ◌↔◌, ◌<ℤ◌, ◌≤ℤ◌, ◌≤◌, ◌||◌, ℤ, true, [], length, IsTrue, MatchOption, IfOk, OnOk, OnErr, slice_get, Some};
-ghost use Rattle.vw_lattice.specs.Order.{IsJoin, TellsChange};
+ghost use Rattle.vw_lattice.specs.Order.{IsJoin, IsLeast, TellsChange};
 ghost use Rattle.vw_locals.specs.Ranges.{is_written, is_between, IsRanges, IsCommon, written_below, bytes};
 ghost use Rattle.vw_locals.specs.RangeOrder.{written_transitive, written_antisymmetric, ranked};
 
@@ -76,12 +76,25 @@ impl Written {
             None
         }
     }
+
+    /// Makes the set equal to another one, in the memory that it has where this is enough. Where memory is refused,
+    /// nothing is in it.
+    pub fn copy_from(&mut self, other: &Written) -> Result<(), OutOfMemory>
+        ensures ok { OnOk result (self.new ≡ other.now) }
+        ensures err { OnErr result (self.new ≡ []) }
+    {
+        self.ranges.clear();
+        self.ranges.extend_from_slice(&other.ranges)?;
+        Ok(())
+    }
 }
 
 impl Lattice for Written {
     type Bounds = ();
 
     ghost valid = { λ bounds written. IsRanges written };
+
+    ghost well_formed = { IsRanges };
 
     ghost below = { written_below };
 
@@ -96,6 +109,9 @@ impl Lattice for Written {
         ensures join { OnOk result (IsRanges self.old → IsRanges other.now
             → IsJoin written_below IsRanges self.old other.now self.new) }
         ensures changed { IfOk result (λ changed. TellsChange changed self.old self.new) }
+        ensures formed { OnOk result (IsRanges self.old → IsRanges other.now → IsRanges self.new) }
+        ensures least { OnOk result (IsRanges self.old → IsRanges other.now
+            → IsLeast written_below IsRanges self.old other.now self.new) }
         ensures common { OnOk result (IsCommon self.old other.now self.new) }
         ensures err { OnErr result (self.new ≡ self.old) }
     {

@@ -1,5 +1,5 @@
 ghost use Rattle.std.specs.Prelude.{◌≡◌, ◌↔◌, [], length, IsTrue, IsOk, IfOk, OnOk, OnErr};
-ghost use Rattle.vw_lattice.specs.Order.{IsJoin, TellsChange};
+ghost use Rattle.vw_lattice.specs.Order.{IsJoin, IsLeast, TellsChange};
 ghost use Rattle.vw_names.specs.Division.{IsDivision, Same, Leaves, LeavesBetween, Follows, division_below, IsRefinement};
 ghost use Rattle.vw_names.specs.DivisionOrder.{division_transitive, division_antisymmetric, division_rank, division_strict};
 ghost use Rattle.vw_names.specs.Groups.{AreGroups};
@@ -54,6 +54,17 @@ impl Classes {
         ensures { self.new ≡ [] }
     {
         self.entries.truncate(0);
+    }
+
+    /// Makes the classes equal to other ones, in the memory that they have where this is enough. Where memory is refused,
+    /// each place is alone.
+    pub fn copy_from(&mut self, other: &Classes) -> Result<(), OutOfMemory>
+        ensures ok { OnOk result (self.new ≡ other.now) }
+        ensures err { OnErr result (self.new ≡ []) }
+    {
+        self.entries.clear();
+        self.entries.extend_from_slice(&other.entries)?;
+        Ok(())
     }
 
     /// Whether two places are in one class.
@@ -118,6 +129,8 @@ impl Lattice for Classes {
 
     ghost valid = { λ bounds classes. IsDivision classes };
 
+    ghost well_formed = { IsDivision };
+
     ghost below = { division_below };
 
     ghost rank = { λ bounds classes. length classes };
@@ -131,6 +144,9 @@ impl Lattice for Classes {
         ensures join { OnOk result (IsDivision self.old → IsDivision other.now
             → IsJoin division_below IsDivision self.old other.now self.new) }
         ensures changed { IfOk result (λ changed. TellsChange changed self.old self.new) }
+        ensures formed { OnOk result (IsDivision self.old → IsDivision other.now → IsDivision self.new) }
+        ensures least { OnOk result (IsDivision self.old → IsDivision other.now
+            → IsLeast division_below IsDivision self.old other.now self.new) }
         ensures refines { OnOk result (IsRefinement self.old other.now self.new) }
         ensures err { OnErr result (self.new ≡ self.old) }
     {

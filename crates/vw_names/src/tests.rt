@@ -84,8 +84,10 @@ fn orders_joins_and_leaves(rt: HostRuntime) -> Result<(), Fail> {
     are(&rt, &left, &[&[RBX, R15], &[LOW, HIGH]])?;
     assert!(rt; right.leq(&left) && !left.leq(&right));
     assert!(rt; !left.join(&right, &())?);
-    let same = left.copy()?;
+    let mut same = left.copy()?;
     assert!(rt; same.leq(&left) && left.leq(&same));
+    same.copy_from(&classes(rt.alloc(), &[(HIGH, RAX)])?)?;
+    are(&rt, &same, &[&[RAX, HIGH]])?;
 
     let mut slots = classes(rt.alloc(), &all)?;
     slots.leave_slots(-24, -8);

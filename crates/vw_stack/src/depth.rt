@@ -16,6 +16,8 @@ impl Lattice for Depth {
 
     ghost valid = { λ bounds depth. ⊤ };
 
+    ghost well_formed = { λ depth. ⊤ };
+
     ghost below = { depth_below };
 
     ghost rank = { λ bounds depth. depth_rank depth };

@@ -21,6 +21,8 @@ impl Lattice for Offset {
 
     ghost valid = { λ bounds offset. ⊤ };
 
+    ghost well_formed = { λ offset. ⊤ };
+
     ghost below = { offset_below };
 
     ghost rank = { λ bounds offset. offset_rank offset };

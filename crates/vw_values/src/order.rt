@@ -1,6 +1,6 @@
 ghost use Rattle.std.specs.Prelude.{◌≡◌, ◌≢◌, ◌↔◌, IsTrue, false, IfOk, OnOk};
-ghost use Rattle.vw_values.specs.Values.{IsNumber, IsValid, mark_below, under_below, under_both, under_heap, under_index, under_jump_dest, under_jump_off, under_low, under_pointer, value_below};
-ghost use Rattle.vw_lattice.specs.Order.{IsJoin, TellsChange};
+ghost use Rattle.vw_values.specs.Values.{IsNumber, IsValid, IsValue, mark_below, under_below, under_both, under_heap, under_index, under_jump_dest, under_jump_off, under_low, under_pointer, value_below};
+ghost use Rattle.vw_lattice.specs.Order.{IsJoin, IsLeast, TellsChange};
 ghost use Rattle.vw_values.specs.Rank.{value_rank};
 ghost use Rattle.vw_values.specs.Joins.{join, shared_mark};
 ghost use Rattle.vw_values.specs.OrderLaws.{reflexive, transitive, antisymmetric, rank_falls, rank_strict};
@@ -62,6 +62,8 @@ impl Lattice for Value {
 
     ghost valid = { IsValid };
 
+    ghost well_formed = { IsValue };
+
     ghost below = { value_below };
 
     ghost rank = { value_rank };
@@ -90,13 +92,19 @@ impl Lattice for Value {
         }
     }
 
-    /// The new value is the join of the old one and the other, whatever their bounds.
+    /// The new value is the join of the old one and the other, whatever their bounds: of values in their ranges it is
+    /// the least valid value above both.
     fn join(&mut self, other: &Self, bounds: &Bounds) -> Result<bool, OutOfMemory>
         ensures equal { self.new ≡ join bounds.now self.old other.now }
         ensures kept { IsValid bounds.now self.old → IsValid bounds.now self.new }
         ensures join { OnOk result (IsValid bounds.now self.old → IsValid bounds.now other.now
             → IsJoin value_below (IsValid bounds.now) self.old other.now self.new) }
         ensures changed { IfOk result (λ changed. TellsChange changed self.old self.new) }
+        ensures formed { OnOk result (IsValue self.old → IsValue other.now → IsValue self.new) }
+        ensures least { OnOk result (IsValue self.old → IsValue other.now
+            → IsLeast value_below (IsValid bounds.now) self.old other.now self.new) }
+        ensures ranges { IsValue self.old → IsValue other.now
+            → IsJoin value_below (IsValid bounds.now) self.old other.now self.new }
     {
         bounds.are_bounds();
         let before = *self;
