@@ -3,7 +3,7 @@ use Rattle.std.proofs.Common.{◌≡◌, ℕ, ◌+◌, ◌<◌, ◌≤◌, List,
 use Rattle.std.proofs.lemmas.List.{drop_more, drop_all}
 use Rattle.vw_stmt.specs.declared.statement.Stmt.{Stmt}
 use Rattle.vw_domain.specs.Abstract.{Abstract}
-use Rattle.vw_domain.specs.Statements.{apply}
+use Rattle.vw_domain.specs.Statements.{apply, applies}
 use Rattle.vw_state.specs.Context.{Context, site_at}
 use Rattle.vw_checks.specs.Checks.{IsLowestOf, StmtFails, StmtsFail, lower}
 use Rattle.vw_checks.proofs.LowestLemmas.{lower_of, lower_assoc, lower_none}
@@ -33,3 +33,16 @@ module _ (f : Context) (next : ℕ) where
       let none : IsLowestOf (Fail now []) None = λ number fails. fails in
       let rest = subst (λ (xs : List Stmt). IsLowestOf (Fail now xs) None) (sym (drop_all k stmts end)) none in
       subst (λ (n : Option ℕ). IsLowestOf (Fail start stmts) n) (lower_none so_far) (before None rest)
+
+  -- one more statement is applied
+  pub one_applied : (start now after : Abstract) (stmts : List Stmt) (k : ℕ) (d : Stmt) → k < length stmts → after ≡ apply (site_at f next) (get_or stmts k d) now
+      → applies (site_at f next) (drop k stmts) now ≡ applies (site_at f next) stmts start → applies (site_at f next) (drop (k + 1) stmts) after ≡ applies (site_at f next) stmts start
+  one_applied start now after stmts k d less moved before =
+      ap (λ (st : Abstract). applies (site_at f next) (drop (k + 1) stmts) st) moved
+      ∙ (ap (λ (xs : List Stmt). applies (site_at f next) xs now) (sym (drop_more stmts k d less)) ∙ before)
+
+  -- no statement is left to be applied
+  pub all_applied : (start now : Abstract) (stmts : List Stmt) (k : ℕ) → length stmts ≤ k → applies (site_at f next) (drop k stmts) now ≡ applies (site_at f next) stmts start
+      → now ≡ applies (site_at f next) stmts start
+  all_applied start now stmts k end before =
+      ap (λ (xs : List Stmt). applies (site_at f next) xs now) (sym (drop_all k stmts end)) ∙ before

@@ -1,11 +1,13 @@
-ghost use Rattle.std.specs.Prelude.{◌≡◌, ◌≤◌, length, true, Contains, IfOk};
+ghost use Rattle.std.specs.Prelude.{◌≡◌, ◌≤◌, length, true, Contains, IfOk, OnOk};
 ghost use Rattle.std.specs.List.{AllByRecursion};
 ghost use Rattle.vw_stmt.specs.Lifted.{IsLifted};
 ghost use Rattle.vw_layout.specs.declared.functions.Function.{Function};
 ghost use Rattle.vw_layout.specs.Layout.{IsWhole};
 ghost use Rattle.vw_domain.specs.Abstract.{abstract_of};
+ghost use Rattle.vw_domain.specs.Statements.{applies};
 ghost use Rattle.vw_state.specs.Code.{code_at, IsPointInsn};
-ghost use Rattle.vw_state.specs.Context.{Context, context_of, IsSite};
+ghost use Rattle.vw_state.specs.Context.{Context, context_of, IsSite, site_at};
+ghost use Rattle.vw_state.specs.Post.{IsBehind};
 ghost use Rattle.vw_checks.specs.Checks.{IsLowestOf, StmtsFail, LowestFailing};
 ghost use Rattle.vw_checks.specs.Functions.{IsFunctionOf};
 ghost use Rattle.vw_checks.specs.Harmless.{never_fail_behind};
@@ -19,7 +21,7 @@ use vw_domain::State;
 use vw_lattice::Lattice;
 use vw_layout::Module;
 use vw_lift::lift;
-use vw_state::{PointInsn, Site, after_stmt, code_is_short, instruction_at};
+use vw_state::{PointInsn, Site, change_by_stmt, change_by_stmts, code_is_short, instruction_at};
 use vw_stmt::Stmt;
 
 /// The lowest number of the checks that fail at a point of a function with a state; `None` exactly where no
@@ -68,23 +70,29 @@ pub fn check_of_code(
     failing(alloc, loaded, site, code, at, state)
 }
 
-/// The same, where the instruction at the point is at hand.
-pub fn check_of_insn(
+/// The same, where the instruction at the point is at hand, and the state is changed as its statements do, but for its
+/// transfer of control: each statement is looked at once. After OutOfMemory nothing is promised of the state.
+pub fn check_and_change(
     loaded: &Module,
     site: &Site,
     code: &[u8],
     point: &PointInsn,
-    state: &State,
+    state: &mut State,
 ) -> Result<Option<u8>, OutOfMemory>
     requires whole { IsWhole loaded.now }
     requires few { length site.now.tables.now ≤ 64 }
     requires code { code.now ≡ code_at site.now.image.now site.now.entry site.now.size }
     requires point { IsPointInsn code.now point.now }
-    ensures { (f : Function) → Contains loaded.now.functions f
+    ensures lowest { (f : Function) → Contains loaded.now.functions f
         → IsSite (context_of loaded.now f) site.now
-        → IfOk result (LowestFailing (context_of loaded.now f) point.now.at state.now) }
+        → IfOk result (LowestFailing (context_of loaded.now f) point.now.at state.old) }
+    ensures behind { OnOk result ((f : Context) → IsSite f site.now
+        → IsBehind f point.now state.old state.new) }
 {
-    failing_insn(loaded, site, code, point, state)
+    code_is_short();
+    let _code = code;
+    let _size = site.size;
+    change_all(loaded, site, point.stmts, point.at + point.len, state)
 }
 
 // The lowest number of the checks that fail at a point.
@@ -154,8 +162,32 @@ fn failing_stmts(
     if never_fail_behind(stmts) {
         return Ok(failing_first(loaded, site, stmts, next, state));
     }
-    let copy = state.copy()?;
-    failing_each(loaded, site, stmts, next, copy)
+    let mut copy = state.copy()?;
+    change_each(loaded, site, stmts, next, &mut copy)
+}
+
+// The same, and changes the state as the statements do. Nothing is promised of it where memory is refused.
+fn change_all(
+    loaded: &Module,
+    site: &Site,
+    stmts: &[Stmt],
+    next: u32,
+    state: &mut State,
+) -> Result<Option<u8>, OutOfMemory>
+    requires whole { IsWhole loaded.now }
+    requires few { length site.now.tables.now ≤ 64 }
+    requires lifted { AllByRecursion IsLifted stmts.now }
+    ensures lowest { (f : Context) → IsFunctionOf loaded.now f → IsSite f site.now
+        → IfOk result (IsLowestOf (StmtsFail f next (abstract_of state.old) stmts.now)) }
+    ensures form { OnOk result ((f : Context) → IsSite f site.now
+        → abstract_of state.new ≡ applies (site_at f next) stmts.now (abstract_of state.old)) }
+{
+    if !never_fail_behind(stmts) {
+        return change_each(loaded, site, stmts, next, state);
+    }
+    let lowest = failing_first(loaded, site, stmts, next, state);
+    change_by_stmts(site, next, stmts, state)?;
+    Ok(lowest)
 }
 
 // The lowest number of the checks that fail at the first of some statements, behind which none can fail.
@@ -179,25 +211,27 @@ fn failing_first(
     }
 }
 
-// The lowest number of the checks that fail at some statements, each with the state before it.
-fn failing_each(
+// The lowest number of the checks that fail at some statements, each with the state before it, which is changed as they
+// do. Nothing is promised of it where memory is refused.
+fn change_each(
     loaded: &Module,
     site: &Site,
     stmts: &[Stmt],
     next: u32,
-    state: State,
+    state: &mut State,
 ) -> Result<Option<u8>, OutOfMemory>
     requires whole { IsWhole loaded.now }
     requires few { length site.now.tables.now ≤ 64 }
     requires lifted { AllByRecursion IsLifted stmts.now }
-    ensures { (f : Context) → IsFunctionOf loaded.now f → IsSite f site.now
-        → IfOk result (IsLowestOf (StmtsFail f next (abstract_of state) stmts.now)) }
+    ensures lowest { (f : Context) → IsFunctionOf loaded.now f → IsSite f site.now
+        → IfOk result (IsLowestOf (StmtsFail f next (abstract_of state.old) stmts.now)) }
+    ensures form { OnOk result ((f : Context) → IsSite f site.now
+        → abstract_of state.new ≡ applies (site_at f next) stmts.now (abstract_of state.old)) }
 {
     let mut lowest = None;
-    let mut current = state;
     for stmt in stmts {
-        lowest = lower(lowest, failing_stmt(loaded, site, stmt, next, &current));
-        current = after_stmt(site, next, stmt, current)?;
+        lowest = lower(lowest, failing_stmt(loaded, site, stmt, next, state));
+        change_by_stmt(site, next, stmt, state)?;
     }
     Ok(lowest)
 }

@@ -10,7 +10,7 @@ mod readable;
 mod statements;
 mod transfers;
 
-pub use checks::{check, check_of_code, check_of_insn};
+pub use checks::{check, check_and_change, check_of_code};
 pub use laws::{
     checks_are_conditions, least_table_is_safe, lower_states_pass, rounds_of_safe_functions_pass,
     stable_rounds_are_safe, stops_are_checks,

@@ -1,10 +1,10 @@
 -- The points of a table by their numbers, and the lowest place at which it is not safe.
-use Rattle.std.proofs.Common.{◌≡◌, ◌⊎◌, inl, inr, ℕ, zero, suc, ◌+◌, ◌≤◌, ◌<◌, Bool, true, false, cond, List, [], ◌∷◌, length, Option, Some, None, refl, sym, ◌∙◌, ap, subst, arith}
+use Rattle.std.proofs.Common.{◌≡◌, ◌⊎◌, inl, inr, ℕ, zero, suc, ◌+◌, ◌≤◌, ◌<◌, Bool, true, false, cond, List, [], ◌∷◌, length, get_or, Option, Some, None, refl, sym, ◌∙◌, ap, subst, arith}
 use Rattle.std.specs.Prelude.{◌==◌}
 use Rattle.std.specs.List.{slice_get, find, All}
 use Rattle.std.specs.Option.{option_map}
 use Rattle.std.proofs.lemmas.Bool.Decides.{nat_tests}
-use Rattle.std.proofs.lemmas.Option.{slice_get_within}
+use Rattle.std.proofs.lemmas.Option.{slice_get_within, slice_get-get_or}
 use Rattle.vw_domain.specs.declared.parts.Parts.{Parts}
 use Rattle.vw_domain.specs.State.{entry_state}
 use Rattle.vw_state.specs.declared.tables.PointState.{PointState}
@@ -63,6 +63,11 @@ state_there from (q ∷ rest) rises (suc k) p e = later (q.at == p.at) (differ q
 
     differ : (a b : ℕ) → suc a ≤ b → (a == b) ≡ false
     differ a b less = grind (arith, nat_tests, less)
+
+-- the entry with this number gives its point its state
+pub given_there : (at k : ℕ) (d : PointState) (table : List PointState) → PointsAscend 0 table → k < length table → (get_or table k d).at ≡ at → state_of table at ≡ Some (get_or table k d).state
+given_there at k d table rises within same =
+    subst (λ (a : ℕ). state_of table a ≡ Some (get_or table k d).state) same (state_there 0 table rises k (get_or table k d) (slice_get-get_or table k d within))
 
 -- ---- what fails at one point
 

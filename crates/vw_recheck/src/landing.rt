@@ -23,8 +23,20 @@ pub(crate) fn points_ascend(states: &[PointState]) -> bool
     true
 }
 
-// The state that a table gives a point, found by halves.
-fn state_at(states: &[PointState], at: u32) -> Option<&State>
+// The state that a table gives a point: that of number `near`, where it is the point's, or found by halves.
+fn state_at(states: &[PointState], near: usize, at: u32) -> Option<&State>
+    requires { PointsAscend 0 states.now }
+    ensures found { IfSome result (λ state. state_of states.now at ≡ Some state.now) }
+    ensures none { IfNone result (state_of states.now at ≡ None) }
+{
+    if near < states.len() && states[near].at == at {
+        return Some(&states[near].state);
+    }
+    state_by_halves(states, at)
+}
+
+// The same, found by halves.
+fn state_by_halves(states: &[PointState], at: u32) -> Option<&State>
     requires { PointsAscend 0 states.now }
     ensures found { IfSome result (λ state. state_of states.now at ≡ Some state.now) }
     ensures none { IfNone result (state_of states.now at ≡ None) }
@@ -38,13 +50,14 @@ fn state_at(states: &[PointState], at: u32) -> Option<&State>
 }
 
 /// Whether a state that comes to a point lands below the one that a table gives it: the table gives one, its bounds are
-/// the function's, and it is greater or equal. Takes no memory.
-pub(crate) fn lands(site: &Site, states: &[PointState], at: u32, state: &State) -> bool
+/// the function's, and it is greater or equal. `near` is the number that the point has in the table most likely. Takes no
+/// memory.
+pub(crate) fn lands(site: &Site, states: &[PointState], near: usize, at: u32, state: &State) -> bool
     requires { PointsAscend 0 states.now }
     ensures { (f : Context) → IsSite f site.now
         → (IsTrue result ↔ Lands f states.now (at, state.now)) }
 {
-    match state_at(states, at) {
+    match state_at(states, near, at) {
         Some(cover) => {
             cover.is_state();
             cover.fits(site.bounds) && state.leq(cover)
@@ -53,14 +66,19 @@ pub(crate) fn lands(site: &Site, states: &[PointState], at: u32, state: &State) 
     }
 }
 
-/// Whether each of some edges lands. Takes no memory.
-pub(crate) fn all_land(site: &Site, states: &[PointState], edges: &[(u32, State)]) -> bool
+/// Whether each of some edges lands, most likely at the point with this number in the table. Takes no memory.
+pub(crate) fn all_land(
+    site: &Site,
+    states: &[PointState],
+    near: usize,
+    edges: &[(u32, State)],
+) -> bool
     requires { PointsAscend 0 states.now }
     ensures { (f : Context) → IsSite f site.now
         → (IsTrue result ↔ All (Lands f states.now) edges.now) }
 {
     for edge in edges {
-        if !lands(site, states, edge.0, &edge.1) {
+        if !lands(site, states, near, edge.0, &edge.1) {
             return false;
         }
     }

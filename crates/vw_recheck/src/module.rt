@@ -2,6 +2,7 @@ ghost use Rattle.std.specs.Prelude.{◌≡◌, ◌↔◌, ◌≤◌, length, map
 ghost use Rattle.std.specs.List.{All};
 ghost use Rattle.vw_layout.specs.declared.functions.Function.{Function};
 ghost use Rattle.vw_layout.specs.Layout.{IsWhole};
+ghost use Rattle.vw_domain.specs.State.{entry_state};
 ghost use Rattle.vw_state.specs.Context.{extent_of, lengths_of};
 ghost use Rattle.vw_checks.specs.Modules.{AreSafe};
 ghost use Rattle.vw_recheck.specs.Places.{EntriesAscend, IsLowestPlace, IsPlaceOf, IsFirstLeft};
@@ -9,7 +10,9 @@ ghost use Rattle.vw_recheck.specs.Places.{EntriesAscend, IsLowestPlace, IsPlaceO
 use crate::table::lowest_in;
 use std::alloc::Global;
 use vw_bits::OutOfMemory;
+use vw_domain::{State, entry_state};
 use vw_layout::{Function, Module, functions_ascend};
+use vw_solver::Edges;
 use vw_state::{
     FunctionTable, Place, Site, Tables, bounds_of, code_of, codes_are_bytes, edges_are_post,
     lengths_of, tables_of,
@@ -38,6 +41,8 @@ pub fn recheck(
     codes_are_bytes(loaded);
     let extents = tables_of(alloc, loaded)?;
     let lengths = lengths_of(alloc, loaded)?;
+    let start = entry_state(alloc)?;
+    let mut edges = Edges::new(alloc);
     let functions = loaded.functions.as_slice();
     let given = tables.functions.as_slice();
     let mut number = 0;
@@ -51,6 +56,8 @@ pub fn recheck(
             lengths.as_slice(),
             function,
             table,
+            &start,
+            &mut edges,
         )? {
             return Ok(Some(place));
         }
@@ -60,7 +67,7 @@ pub fn recheck(
 }
 
 // The place of a declared function beside a given table. The tables of the module are given by address and number of
-// entries, and by the number of entries alone.
+// entries, and by the number of entries alone. `start` is the state at an entry; of the edges only the memory is taken.
 fn place_of(
     alloc: Global,
     loaded: &Module,
@@ -68,6 +75,8 @@ fn place_of(
     lengths: &[u64],
     function: &Function,
     table: &FunctionTable,
+    start: &State,
+    edges: &mut Edges<State>,
 ) -> Result<Option<Place>, OutOfMemory>
     requires whole { IsWhole loaded.now }
     requires tables { extents.now ≡ map extent_of loaded.now.tables }
@@ -75,6 +84,7 @@ fn place_of(
     requires lengths { lengths.now ≡ lengths_of loaded.now.tables }
     requires short { All (λ n. n ≤ 65536) lengths.now }
     requires declared { Contains loaded.now.functions function.now }
+    requires start { start.now ≡ entry_state }
     ensures { IfOk result (IsPlaceOf loaded.now function.now table.now) }
 {
     if function.entry != table.entry {
@@ -89,7 +99,7 @@ fn place_of(
         size: function.size,
         bounds: &bounds,
     };
-    match lowest_in(alloc, loaded, &site, table.states.as_slice())? {
+    match lowest_in(alloc, loaded, &site, table.states.as_slice(), start, edges)? {
         Some((at, check)) => Ok(Some(Place {
             entry: function.entry,
             at,

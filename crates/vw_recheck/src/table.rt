@@ -1,6 +1,7 @@
-ghost use Rattle.std.specs.Prelude.{◌≡◌, ◌≤◌, length, Contains, IfOk};
+ghost use Rattle.std.specs.Prelude.{◌≡◌, ◌≤◌, [], length, Contains, IfOk};
 ghost use Rattle.vw_layout.specs.declared.functions.Function.{Function};
 ghost use Rattle.vw_layout.specs.Layout.{IsWhole};
+ghost use Rattle.vw_domain.specs.State.{entry_state};
 ghost use Rattle.vw_state.specs.Code.{code_at};
 ghost use Rattle.vw_state.specs.Context.{context_of, IsSite};
 ghost use Rattle.vw_recheck.specs.Places.{PointsAscend, IsLowestAt, IsLowestIn};
@@ -8,17 +9,35 @@ ghost use Rattle.vw_recheck.specs.Places.{PointsAscend, IsLowestAt, IsLowestIn};
 use crate::landing::{all_land, lands, points_ascend};
 use std::alloc::Global;
 use vw_bits::OutOfMemory;
-use vw_checks::{check_of_code, check_of_insn};
-use vw_domain::entry_state;
+use vw_checks::{check_and_change, check_of_code};
+use vw_domain::State;
+use vw_lattice::Lattice;
 use vw_layout::Module;
 use vw_lift::lift;
 use vw_solver::Edges;
 use vw_state::{
-    PointInsn, PointState, Site, code_is_short, codes_are_bytes, edges_are_post, instruction_at,
-    post_of_insn,
+    PointInsn, PointState, Site, code_is_short, codes_are_bytes, edges_are_post, has_no_edge,
+    instruction_at, post_behind,
 };
 
-// The lowest number of what fails at a point of a table.
+// A copy of a state, in the memory of the last of some edges where there is one. No edge is left.
+fn copy_in(edges: &mut Edges<State>, state: &State) -> Result<State, OutOfMemory>
+    ensures copy { IfOk result (λ copy. copy ≡ state.now) }
+    ensures empty { edges.new ≡ [] }
+{
+    let last = edges.pop();
+    edges.truncate(0);
+    match last {
+        Some((_, mut copy)) => {
+            copy.copy_from(state)?;
+            Ok(copy)
+        }
+        None => state.copy(),
+    }
+}
+
+// The lowest number of what fails at a point of a table. Most edges go to the point with the number `near` in the table. Of
+// the given edges only the memory is taken: that of those of the point before, for the state that is changed here.
 fn failing_at(
     alloc: Global,
     loaded: &Module,
@@ -26,6 +45,8 @@ fn failing_at(
     code: &[u8],
     states: &[PointState],
     point: &PointState,
+    near: usize,
+    edges: &mut Edges<State>,
 ) -> Result<Option<u8>, OutOfMemory>
     requires whole { IsWhole loaded.now }
     requires few { length site.now.tables.now ≤ 64 }
@@ -49,25 +70,34 @@ fn failing_at(
         insn: &insn,
         stmts: stmts.as_slice(),
     };
-    let mut edges = Edges::new(alloc);
-    post_of_insn(site, code, &here, &point.state, &mut edges)?;
-    if !all_land(site, states, edges.as_slice()) {
+    let mut state = copy_in(edges, &point.state)?;
+    let number = check_and_change(loaded, site, code, &here, &mut state)?;
+    if has_no_edge(site, code, &here) {
+        // the point after it takes the memory of the state
+        edges.push((point.at, state))?;
+        return Ok(number);
+    }
+    post_behind(site, code, &here, state, edges)?;
+    if !all_land(site, states, near, edges.as_slice()) {
         return Ok(Some(0));
     }
-    let number = check_of_insn(loaded, site, code, &here, &point.state)?;
     Ok(number)
 }
 
 /// The lowest offset at which a function's table is not safe, with the lowest number there: 0 where the table is no
-/// solution of the function's equations, and else that of a check. `None` exactly where the table is safe.
+/// solution of the function's equations, and else that of a check. `None` exactly where the table is safe. `start` is the
+/// state at an entry; of the edges only the memory is taken.
 pub(crate) fn lowest_in(
     alloc: Global,
     loaded: &Module,
     site: &Site,
     states: &[PointState],
+    start: &State,
+    edges: &mut Edges<State>,
 ) -> Result<Option<(u32, u8)>, OutOfMemory>
     requires whole { IsWhole loaded.now }
     requires few { length site.now.tables.now ≤ 64 }
+    requires start { start.now ≡ entry_state }
     ensures { (f : Function) → Contains loaded.now.functions f
         → IsSite (context_of loaded.now f) site.now
         → IfOk result (IsLowestIn (context_of loaded.now f) states.now) }
@@ -79,12 +109,13 @@ pub(crate) fn lowest_in(
     if !points_ascend(states) {
         return Ok(Some((0, 0)));
     }
-    let start = entry_state(alloc)?;
-    if !lands(site, states, 0, &start) {
+    if !lands(site, states, 0, 0, start) {
         return Ok(Some((0, 0)));
     }
+    let mut near = 0usize;
     for point in states {
-        if let Some(number) = failing_at(alloc, loaded, site, code, states, point)? {
+        near = near.saturating_add(1);
+        if let Some(number) = failing_at(alloc, loaded, site, code, states, point, near, edges)? {
             return Ok(Some((point.at, number)));
         }
     }

@@ -1,6 +1,7 @@
 -- The states that edges carry are those of their forms.
 use Rattle.std.proofs.Common.{◌≡◌, ℕ, ◌^◌, ◌<◌, Bool, true, false, List, [], ◌∷◌, ◌++◌, map, append_assoc, Option, Some, None, refl, sym, ◌∙◌, ap, subst, arith}
 use Rattle.std.specs.Prelude.{nat_lt, if◌then◌else◌, ℤ}
+use Rattle.std.proofs.lemmas.Bool.{false≢true}
 use Rattle.std.proofs.lemmas.Bool.Decides.{nat_tests}
 use Rattle.std.proofs.lemmas.List.{map-append}
 use Rattle.std.proofs.Math.Path.{fun_ext}
@@ -36,7 +37,7 @@ use Rattle.vw_domain.specs.Refines.{rule_told}
 use Rattle.vw_domain.specs.Sites.{Site}
 use Rattle.vw_state.specs.Context.{Context, site_at}
 use Rattle.vw_state.specs.Edges.{Tells}
-use Rattle.vw_state.specs.Post.{relative_point, inside, branch_edge, flow_forms, form_behind, with_state, insn_edges}
+use Rattle.vw_state.specs.Post.{relative_point, inside, branch_edge, flow_forms, form_behind, has_no_edge, with_state, insn_edges}
 
 -- a state is the one of its form
 pub again : StatesHaveForms → StatesNameBounds → StateOfForms → FormsTellStates → (s : Parts) → IsState s → state_of (abstract_of s) ≡ s
@@ -171,3 +172,14 @@ read_edges f targets next i state behind fl before after edges same flow are e =
     ∙ (ap (λ (st : Abstract). before ++ map with_state (flow_forms f targets next st fl)) same
     ∙ (ap (λ (x : Flow). before ++ map with_state (flow_forms f targets next (form_behind f next i state) x)) flow
     ∙ ap (λ (es : List (ℕ × Parts)). before ++ es) are))
+
+-- what has no edge has none with any state
+pub no_edges : (f : Context) (targets : Var → Abstract → List ℕ) (next : ℕ) (st : Abstract) (fl : Flow) → has_no_edge fl ≡ true → map with_state (flow_forms f targets next st fl) ≡ []
+no_edges f targets next st flow.Next is = absurd (false≢true is)
+no_edges f targets next st (flow.Jump rel) is = absurd (false≢true is)
+no_edges f targets next st (flow.Branch cond rel) is = absurd (false≢true is)
+no_edges f targets next st (flow.JumpReg src) is = absurd (false≢true is)
+no_edges f targets next st (flow.Call rel) is = absurd (false≢true is)
+no_edges f targets next st (flow.CallReg src) is = absurd (false≢true is)
+no_edges f targets next st flow.Ret is = refl
+no_edges f targets next st flow.Stop is = refl

@@ -1,7 +1,7 @@
 -- The edges that leave a point of a function: where control can go from the instruction there, each with the state that
 -- it carries (SDM volume 2, "CALL", "JMP", "Jcc", "RET", "UD"; volume 1, 6.4 and 7.3.8). States are told by their
 -- abstract forms, of which each is the form of one state.
-use Rattle.std.specs.Prelude.{ℕ, zero, suc, ◌+◌, ◌^◌, ◌==◌, nat_lt, if◌then◌else◌, ℤ, pos, negsuc, ◌+ℤ◌, Bool, true, false, List, [], ◌∷◌, ◌++◌, drop, map, Option, Some, None}
+use Rattle.std.specs.Prelude.{◌≡◌, ℕ, zero, suc, ◌+◌, ◌^◌, ◌==◌, nat_lt, if◌then◌else◌, ℤ, pos, negsuc, ◌+ℤ◌, Bool, true, false, List, [], ◌∷◌, ◌++◌, drop, map, Option, Some, None}
 use Rattle.std.specs.Option.{option_map_or}
 use Rattle.vw_insn.specs.declared.registers.Width.{Width}
 use Rattle.vw_insn.specs.declared.instruction.Insn.{Insn}
@@ -22,6 +22,7 @@ use Rattle.vw_domain.specs.Calls.{after_call, after_probe}
 use Rattle.vw_domain.specs.Operands.{index_of}
 use Rattle.vw_domain.specs.StateOf as forms
 use Rattle.vw_domain.specs.Statements.{applies, finish}
+use Rattle.vw_state.specs.declared.edges.PointInsn.{PointInsn}
 use Rattle.vw_state.specs.declared.jumps.JumpTable.{JumpTable}
 use Rattle.vw_state.specs.Code.{BeginsAt, NothingAt}
 use Rattle.vw_state.specs.Context.{Context, code_of, site_at}
@@ -133,9 +134,25 @@ flow_forms f targets next st (flow.CallReg src) = (next, after_call st) ∷ []
 flow_forms f targets next st flow.Ret = []
 flow_forms f targets next st flow.Stop = []
 
+-- a return and a trap have no edge, whatever the state is
+abbrev pub has_no_edge : Flow → Bool
+has_no_edge flow.Next = false
+has_no_edge (flow.Jump rel) = false
+has_no_edge (flow.Branch cond rel) = false
+has_no_edge (flow.JumpReg src) = false
+has_no_edge (flow.Call rel) = false
+has_no_edge (flow.CallReg src) = false
+has_no_edge flow.Ret = true
+has_no_edge flow.Stop = true
+
 -- the state behind the statements of an instruction with `next` behind it, but for its transfer of control
 abbrev pub form_behind : Context → ℕ → Insn → Parts → Abstract
 form_behind f next i state = applies (site_at f next) (steps i) (abstract_of state)
+
+-- the state behind the statements of the instruction at a point, with the state before them
+abbrev pub IsBehind : Context → PointInsn → Parts → Parts → Type 0
+IsBehind f point before behind =
+    abstract_of behind ≡ applies (site_at f (point.at + point.len)) point.stmts.now (abstract_of before)
 
 -- the edges of an instruction with `next` behind it, from a state
 abbrev pub insn_forms : Context → (Var → Abstract → List ℕ) → ℕ → Parts → Insn → List (ℕ × Abstract)

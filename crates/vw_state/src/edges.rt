@@ -8,20 +8,21 @@ ghost use Rattle.vw_stmt.specs.declared.statement.Stmt.{Stmt};
 ghost use Rattle.vw_lift.specs.Lifted.{lifted, flow_of};
 ghost use Rattle.vw_stmt.specs.Lifted.{IsLifted};
 ghost use Rattle.vw_domain.specs.Abstract.{Abstract, abstract_of};
+ghost use Rattle.vw_domain.specs.declared.parts.Parts.{Parts};
 ghost use Rattle.vw_domain.specs.Addresses.{value_of};
 ghost use Rattle.vw_domain.specs.Operands.{index_of};
 ghost use Rattle.vw_domain.specs.State.{Fits};
 ghost use Rattle.vw_state.specs.Checks.{Leaves};
 ghost use Rattle.vw_state.specs.Code.{code_at, NothingAt, StandsAlone, IsPointInsn};
 ghost use Rattle.vw_state.specs.Context.{Context, IsSite};
-ghost use Rattle.vw_state.specs.Post.{relative_point, inside, jump_table, table_targets, form_behind, seconds, edges_with, edges_at, Post};
+ghost use Rattle.vw_state.specs.Post.{relative_point, inside, jump_table, table_targets, form_behind, seconds, edges_with, edges_at, has_no_edge, IsBehind, Post};
 
 use crate::flow_edges::append_flow;
 use crate::jumps::{jump_table, stays_inside};
-use crate::laws::edges_are_post;
+use crate::laws::{code_is_short, edges_are_post};
 use crate::registers::known_of;
 use crate::site::as_bytes;
-use crate::statements::change_all;
+use crate::statements::{change_all, change_by_stmts};
 use crate::{JumpTable, Site};
 use std::alloc::Global;
 use vw_bits::OutOfMemory;
@@ -103,8 +104,8 @@ pub fn post_of_code(
     post_of_insn(site, code, &point, state, out)
 }
 
-/// The same, where the instruction at the point is at hand. Beyond the edges and their states it takes no memory.
-pub fn post_of_insn(
+// The same, where the instruction at the point is at hand.
+fn post_of_insn(
     site: &Site,
     code: &[u8],
     point: &PointInsn,
@@ -118,12 +119,35 @@ pub fn post_of_insn(
         → OnOk result (out.new ≡ out.old ++ edges_at f point.now.at state.now) }
     ensures err { OnErr result (out.new ≡ out.old) }
 {
+    code_is_short();
+    let _code = code;
+    let _size = site.size;
+    let mut behind = state.copy()?;
+    change_by_stmts(site, point.at + point.len, point.stmts, &mut behind)?;
+    post_behind(site, code, point, behind, out)
+}
+
+/// The same, where the instruction at the point is at hand, and the state behind its statements, which
+/// `change_by_stmts` makes of the one before them. The last edge that carries this state takes it over. Beyond the edges,
+/// their other states and what a call may need it takes no memory.
+pub fn post_behind(
+    site: &Site,
+    code: &[u8],
+    point: &PointInsn,
+    behind: State,
+    out: &mut Edges<State>,
+) -> Result<(), OutOfMemory>
+    requires code { code.now ≡ code_at site.now.image.now site.now.entry site.now.size }
+    requires point { IsPointInsn code.now point.now }
+    ensures edges { (f : Context) (state : Parts) → IsSite f site.now
+        → IsBehind f point.now state behind
+        → OnOk result (out.new ≡ out.old ++ edges_at f point.now.at state) }
+    ensures err { OnErr result (out.new ≡ out.old) }
+{
     edges_are_post();
     let _code = as_bytes(code);
     let next = point.at + point.len;
     let flow = last_flow(point.stmts);
-    let mut behind = state.copy()?;
-    go_behind(site, next, point.stmts, &mut behind)?;
     let table = table_told(flow, &behind);
     append_flow(site, next, flow, table, behind, out)
 }
@@ -157,6 +181,35 @@ pub fn post_with(
     let mut behind = state.copy()?;
     go_behind(site, next, stmts.as_slice(), &mut behind)?;
     append_flow(site, next, flow, table, behind, out)
+}
+
+/// Whether the instruction at a point is a return or a trap, from which no edge leaves with any state. Takes no memory.
+pub fn has_no_edge(site: &Site, code: &[u8], point: &PointInsn) -> bool
+    requires code { code.now ≡ code_at site.now.image.now site.now.entry site.now.size }
+    requires point { IsPointInsn code.now point.now }
+    ensures flow { result ≡ has_no_edge (flow_of point.now.insn.now) }
+    ensures edges { IsTrue result → (f : Context) (state : Parts) → IsSite f site.now
+        → edges_at f point.now.at state ≡ [] }
+{
+    edges_are_post();
+    let _site = site;
+    let _code = as_bytes(code);
+    let flow = last_flow(point.stmts);
+    has_flow_no_edge(flow)
+}
+
+fn has_flow_no_edge(flow: Flow) -> bool
+    ensures { result ≡ has_no_edge flow }
+{
+    match flow {
+        Flow::Ret | Flow::Stop => true,
+        Flow::Next
+        | Flow::Jump { .. }
+        | Flow::Branch { .. }
+        | Flow::JumpReg { .. }
+        | Flow::Call { .. }
+        | Flow::CallReg { .. } => false,
+    }
 }
 
 // The table of jumps of which the register of a jump tells, with the state behind the other statements.

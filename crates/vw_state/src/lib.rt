@@ -27,8 +27,8 @@ mod tables;
 
 pub use bounds::bounds_of;
 pub use edges::{
-    PointInsn, direct_target, flow_of, instruction_at, leaves_directly, leaves_function, post,
-    post_of_code, post_of_insn, post_with, state_behind,
+    PointInsn, direct_target, flow_of, has_no_edge, instruction_at, leaves_directly,
+    leaves_function, post, post_behind, post_of_code, post_with, state_behind,
 };
 pub use jumps::{JumpTable, jump_table, stays_inside};
 pub use laws::{
@@ -45,7 +45,7 @@ pub use round_laws::{
     stable_rounds_solve,
 };
 pub use site::{Site, code_of};
-pub use statements::{after_stmt, after_stmts, apply, value_after};
+pub use statements::{apply, change_by_stmt, change_by_stmts, value_after};
 pub use tables::{FunctionTable, Place, PointState, Tables, Verdict};
 
 #[cfg(test)]

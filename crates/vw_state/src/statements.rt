@@ -110,7 +110,7 @@ fn change(site: &Site, next: u32, stmt: &Stmt, state: &mut State) -> Result<(), 
 }
 
 // Changes a state as several statements do, one after another. Nothing is promised where memory is refused.
-pub fn change_all(
+pub(crate) fn change_all(
     site: &Site,
     next: u32,
     stmts: &[Stmt],
@@ -129,39 +129,40 @@ pub fn change_all(
     Ok(())
 }
 
-/// The state after a statement of an instruction with the point `next` behind it. A `Flow` changes nothing here.
-/// OutOfMemory where the allocator refuses a request.
-pub fn after_stmt(site: &Site, next: u32, stmt: &Stmt, state: State) -> Result<State, OutOfMemory>
+/// Changes a state as a statement of an instruction with the point `next` behind it does. A `Flow` changes nothing here.
+/// OutOfMemory where the allocator refuses a request; then nothing is promised of the state.
+pub fn change_by_stmt(
+    site: &Site,
+    next: u32,
+    stmt: &Stmt,
+    state: &mut State,
+) -> Result<(), OutOfMemory>
     requires few { length site.now.tables.now ≤ 64 }
     requires lifted { IsLifted stmt.now }
-    ensures form { IfOk result (λ after. (f : Context) → IsSite f site.now
-        → abstract_of after ≡ apply (site_at f next) stmt.now (abstract_of state)) }
-    ensures fits { IfOk result
-        (λ after. Fits site.now.bounds.now state → Fits site.now.bounds.now after) }
+    ensures form { OnOk result ((f : Context) → IsSite f site.now
+        → abstract_of state.new ≡ apply (site_at f next) stmt.now (abstract_of state.old)) }
+    ensures fits { OnOk result
+        (Fits site.now.bounds.now state.old → Fits site.now.bounds.now state.new) }
 {
-    let mut after = state;
-    change(site, next, stmt, &mut after)?;
-    Ok(after)
+    change(site, next, stmt, state)
 }
 
-/// The state after several statements of an instruction with the point `next` behind it, one after another.
-/// OutOfMemory where the allocator refuses a request.
-pub fn after_stmts(
+/// Changes a state as several statements of an instruction with the point `next` behind it do, one after another.
+/// OutOfMemory where the allocator refuses a request; then nothing is promised of the state.
+pub fn change_by_stmts(
     site: &Site,
     next: u32,
     stmts: &[Stmt],
-    state: State,
-) -> Result<State, OutOfMemory>
+    state: &mut State,
+) -> Result<(), OutOfMemory>
     requires few { length site.now.tables.now ≤ 64 }
     requires lifted { AllByRecursion IsLifted stmts.now }
-    ensures form { IfOk result (λ after. (f : Context) → IsSite f site.now
-        → abstract_of after ≡ applies (site_at f next) stmts.now (abstract_of state)) }
-    ensures fits { IfOk result
-        (λ after. Fits site.now.bounds.now state → Fits site.now.bounds.now after) }
+    ensures form { OnOk result ((f : Context) → IsSite f site.now
+        → abstract_of state.new ≡ applies (site_at f next) stmts.now (abstract_of state.old)) }
+    ensures fits { OnOk result
+        (Fits site.now.bounds.now state.old → Fits site.now.bounds.now state.new) }
 {
-    let mut after = state;
-    change_all(site, next, stmts, &mut after)?;
-    Ok(after)
+    change_all(site, next, stmts, state)
 }
 
 /// Changes a state as the statements of an instruction with the point `next` behind it do, and its end, after which tmp

@@ -7,4 +7,4 @@ use Rattle.vw_checks.proofs.checks.failing_stmts.Goals as goal
 
 pub returns : goal.returns
 returns c = λ f of is.
-    subst (λ (s : Parts). IfOk c.failing_each.result (IsLowestOf (StmtsFail f c.args.next (abstract_of s) c.args.stmts.now))) c.in_ok-copy.ensures (c.failing_each.ensures f of is)
+    subst (λ (s : Parts). IfOk c.change_each.result (IsLowestOf (StmtsFail f c.args.next (abstract_of s) c.args.stmts.now))) c.in_ok-copy.ensures (c.change_each.ensures.lowest f of is)

@@ -23,21 +23,38 @@ returns-in_default c = λ f listed is.
     (subst (λ (es : List (ℕ × Parts)). All (Lands context states) es) edges (All-nil (Lands context states)))
     (c.in_ok-lacking.ensures f listed is)
 
+pub returns-then-has_no_edge : goal.returns-then-has_no_edge
+returns-then-has_no_edge c = λ f listed is.
+    let context = context_of c.args.loaded.now f in
+    let states = c.args.states.now in
+    let at = c.args.point.now.at in
+    let state = c.args.point.now.state in
+    let none : edges_at context at state ≡ [] = c.has_no_edge.ensures.edges c.if-has_no_edge.true context state is in
+    edges_land context states at state c.in_ok-number.number
+    (subst (λ (es : List (ℕ × Parts)). All (Lands context states) es) (sym none) (All-nil (Lands context states)))
+    (rw c.in_ok-state.ensures.copy at (c.in_ok-number.ensures.lowest f listed is))
+
 pub returns-then-not-all_land : goal.returns-then-not-all_land
 returns-then-not-all_land c = λ f listed is.
     let context = context_of c.args.loaded.now f in
     let states = c.args.states.now in
-    let edges = edges_at context c.args.point.now.at c.args.point.now.state in
-    let same = c.as_slice-2.ensures ∙ (c.in_ok-post_of_insn.ensures.edges context is ∙ ap (λ (front : List (ℕ × Parts)). front ++ edges) c.new-edges.ensures) in
-    edge_out context states c.args.point.now.at c.args.point.now.state
+    let at = c.args.point.now.at in
+    let state = c.args.point.now.state in
+    let edges = edges_at context at state in
+    let behind = rw c.in_ok-state.ensures.copy at (c.in_ok-number.ensures.behind context is) in
+    let same = c.as_slice-2.ensures ∙ (c.in_ok-post_behind.ensures.edges context state is behind ∙ ap (λ (front : List (ℕ × Parts)). front ++ edges) c.copy_in.ensures.empty) in
+    edge_out context states at state
     (λ all. false_true ((c.if-not-all_land.ensures context is).1 (subst (λ (es : List (ℕ × Parts)). All (Lands context states) es) (sym same) all)))
 
 pub returns : goal.returns
 returns c = λ f listed is.
     let context = context_of c.args.loaded.now f in
     let states = c.args.states.now in
-    let edges = edges_at context c.args.point.now.at c.args.point.now.state in
-    let same = c.as_slice-2.ensures ∙ (c.in_ok-post_of_insn.ensures.edges context is ∙ ap (λ (front : List (ℕ × Parts)). front ++ edges) c.new-edges.ensures) in
-    edges_land context states c.args.point.now.at c.args.point.now.state c.in_ok-number.number
+    let at = c.args.point.now.at in
+    let state = c.args.point.now.state in
+    let edges = edges_at context at state in
+    let behind = rw c.in_ok-state.ensures.copy at (c.in_ok-number.ensures.behind context is) in
+    let same = c.as_slice-2.ensures ∙ (c.in_ok-post_behind.ensures.edges context state is behind ∙ ap (λ (front : List (ℕ × Parts)). front ++ edges) c.copy_in.ensures.empty) in
+    edges_land context states at state c.in_ok-number.number
     (subst (λ (es : List (ℕ × Parts)). All (Lands context states) es) same ((c.if-not-all_land.ensures context is).0 refl))
-    (c.in_ok-number.ensures f listed is)
+    (rw c.in_ok-state.ensures.copy at (c.in_ok-number.ensures.lowest f listed is))

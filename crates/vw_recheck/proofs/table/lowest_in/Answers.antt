@@ -13,14 +13,14 @@ returns-then-not-points_ascend c = λ f listed is. unordered_first (context_of c
 
 pub returns-then-not-lands : goal.returns-then-not-lands
 returns-then-not-lands c = λ f listed is. begins_first (context_of c.args.loaded.now f) c.args.states.now
-    (λ lands. false_true ((c.if-not-lands.ensures (context_of c.args.loaded.now f) is).1 (subst (λ (s : Parts). Lands (context_of c.args.loaded.now f) c.args.states.now (0, s)) (sym c.in_ok-start.ensures) lands)))
+    (λ lands. false_true ((c.if-not-lands.ensures (context_of c.args.loaded.now f) is).1 (subst (λ (s : Parts). Lands (context_of c.args.loaded.now f) c.args.states.now (0, s)) (sym c.requires.start) lands)))
 
 pub returns-in-Some : goal.returns-in-Some
 returns-in-Some c = λ f listed is.
     let item = c.point-item.result in
     let there : slice_get c.args.states.now c.loop-point.point-index ≡ Some item = slice_get-get_or c.args.states.now c.loop-point.point-index item c.loop-point-test.true ∙ ap Some (sym c.point-item.is) in
     fails_first (context_of c.args.loaded.now f) c.args.states.now c.loop-point.point-index item c.in-Some.number
-    (c.if-not-points_ascend.ensures.0 refl) (subst (λ (s : Parts). Lands (context_of c.args.loaded.now f) c.args.states.now (0, s)) c.in_ok-start.ensures ((c.if-not-lands.ensures (context_of c.args.loaded.now f) is).0 refl))
+    (c.if-not-points_ascend.ensures.0 refl) (subst (λ (s : Parts). Lands (context_of c.args.loaded.now f) c.args.states.now (0, s)) c.requires.start ((c.if-not-lands.ensures (context_of c.args.loaded.now f) is).0 refl))
     there (c.loop-point.invariant f listed is) (rw c.in-Some.is at (c.in_ok-number.ensures f listed is))
 
 pub loop-point-init : goal.loop-point-init
@@ -39,4 +39,4 @@ returns c = λ f listed is.
     safe_all context c.args.states.now c.loop-point.point-index
     (λ at state edges post. c.edges_are_post.ensures.only context (destinations context) at state edges (c.codes_are_bytes.ensures f) post)
     (c.code_is_short.ensures context.image context.entry context.size)
-    c.loop-point-test.false (c.if-not-points_ascend.ensures.0 refl) (subst (λ (s : Parts). Lands context c.args.states.now (0, s)) c.in_ok-start.ensures ((c.if-not-lands.ensures context is).0 refl)) (c.loop-point.invariant f listed is)
+    c.loop-point-test.false (c.if-not-points_ascend.ensures.0 refl) (subst (λ (s : Parts). Lands context c.args.states.now (0, s)) c.requires.start ((c.if-not-lands.ensures context is).0 refl)) (c.loop-point.invariant f listed is)
