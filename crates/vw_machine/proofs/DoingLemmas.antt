@@ -14,8 +14,8 @@ use Rattle.vw_machine.specs.declared.world.World.{World}
 use Rattle.vw_machine.specs.declared.choice.Choice.{Choice}
 use Rattle.vw_machine.specs.declared.doing.Work.{Work}
 use Rattle.vw_machine.specs.World.{touches, guard_range, heap_range, IsLaidOut}
-use Rattle.vw_machine.specs.Module.{Module, view_of}
-use Rattle.vw_machine.specs.State.{Activation, State}
+use Rattle.vw_machine.specs.Module.{ModuleView, view_of}
+use Rattle.vw_machine.specs.State.{Activation, MachineState}
 use Rattle.vw_machine.specs.Standing.{Code, StandsAt}
 use Rattle.vw_machine.specs.Step.{after_insn, accesses, does_trap}
 use Rattle.vw_machine.specs.Events.{read_events, write_events, transfer_events, insn_events, events_of}
@@ -81,7 +81,7 @@ trap_of w choice i xs ys =
     ∙ ap (λ (b : Bool). list_any g (xs ++ ys) || (choice.trap && (may_trap i || b))) (sym (any_append h xs ys))
 
 -- the events of an instruction are those of what it does
-pub events_of_work : (m : Module) (w : World) (s : State) (i : Insn) (len : ℕ) (choice : Choice) (work : Work) → IsWork m w s i len choice work → work_events work ≡ insn_events m w s i len choice
+pub events_of_work : (m : ModuleView) (w : World) (s : MachineState) (i : Insn) (len : ℕ) (choice : Choice) (work : Work) → IsWork m w s i len choice work → work_events work ≡ insn_events m w s i len choice
 events_of_work m w s i len choice work is =
     let f = λ (rs : List Access) (after : After) (traps : Bool) (next : ℕ).
     read_events rs ++ write_events (places_of after.writes) ++ (if traps then [] else transfer_events next after.transfer) in
@@ -92,7 +92,7 @@ events_of_work m w s i len choice work is =
     ∙ ap (λ (b : Bool). f rs after b work.next) is.whether_it_traps
     ∙ ap (λ (n : ℕ). f rs after (does_trap w i (accesses rs after.writes) choice) n) is.what_is_next
 
-module _ (m : Module) (w : World) (s : State) (choice : Choice) where
+module _ (m : ModuleView) (w : World) (s : MachineState) (choice : Choice) where
   pub code_events : (active : List Activation) (i : Insn) (len : ℕ) → StandsAt m w s.rip active (Code i len) → insn_events m w s i len choice ≡ events_of m w s active (Code i len) choice
   code_events [] i len stands = absurd stands
   code_events (top ∷ rest) i len stands = refl

@@ -19,7 +19,7 @@ use Rattle.vw_image.specs.Words.{word_at, word_of, unrelocated_word, bytes_at}
 use Rattle.vw_image.specs.Laws.{image_word}
 use Rattle.vw_machine.specs.declared.world.World.{World}
 use Rattle.vw_machine.specs.World.{Range, IsLaidOut, is_within, loaded_range}
-use Rattle.vw_machine.specs.Module.{Module, segment_range}
+use Rattle.vw_machine.specs.Module.{ModuleView, segment_range}
 use Rattle.vw_machine.specs.Step.{is_in_image}
 use Rattle.vw_machine.specs.Found.{IsRelocated, is_image_byte}
 use Rattle.vw_machine.proofs.Lists.{one_of, and_parts}
@@ -192,7 +192,7 @@ pub below_parts : (w : World) (segments : List Segment) (a : ℕ) → a < w.load
 below_parts w [] a low = refl
 below_parts w (s ∷ more) a low = let one = below_part w s a low in let rest = below_parts w more a low in rw (← one) rest
 
-module _ (m : Module) (w : World) (laid : IsLaidOut m.image m.imports w) where
+module _ (m : ModuleView) (w : World) (laid : IsLaidOut m.image m.imports w) where
   -- the addresses of the image are those of the processor
   pub byte_inside : (a : ℕ) → is_image_byte m w a ≡ true → (w.load ≤ a) × (a < 2 ^ 47)
   byte_inside a is =

@@ -13,8 +13,8 @@ use Rattle.vw_machine.specs.declared.choice.Choice.{Choice}
 use Rattle.vw_machine.specs.declared.event.Event.{Event}
 use Rattle.vw_machine.specs.declared.event.Event.TheVariants.{Read, Write}
 use Rattle.vw_machine.specs.World.{Range, IsLaidOut, IsIn, loaded_range}
-use Rattle.vw_machine.specs.Module.{Module, bytes_from}
-use Rattle.vw_machine.specs.State.{Activation, State}
+use Rattle.vw_machine.specs.Module.{ModuleView, bytes_from}
+use Rattle.vw_machine.specs.State.{Activation, MachineState}
 use Rattle.vw_machine.specs.Standing.{Here, Code, Stub, Host, Probe, Nowhere, IsInside, IsSpelledAt, IsStubAt, IsHostAt, IsProbeAt, StandsFor, StandsAt}
 use Rattle.vw_machine.specs.Step.{does_trap}
 use Rattle.vw_machine.specs.Permitted.{MayDo, MayRead, MayWrite, PermittedOf, IsPermitted}
@@ -34,19 +34,19 @@ shared a n from to one two three four =
     ]
 
 -- what an instruction reads is read by the common rows, or it is a return's address
-read_by : (m : Module) (w : World) (top : Activation) (way : Way) (a n : ℕ) → MayDo m w top way (Read a n) → MayRead m w top a n ⊎ ((a ≡ top.rsp0) × (n ≡ 8))
+read_by : (m : ModuleView) (w : World) (top : Activation) (way : Way) (a n : ℕ) → MayDo m w top way (Read a n) → MayRead m w top a n ⊎ ((a ≡ top.rsp0) × (n ≡ 8))
 read_by m w top Ordinary a n may = inl may
 read_by m w top Return a n may = inr may
 read_by m w top Direct a n may = inl may
 read_by m w top Indirect a n may = inl may
 
-write_by : (m : Module) (w : World) (top : Activation) (way : Way) (a n : ℕ) → MayDo m w top way (Write a n) → MayWrite m w top a n
+write_by : (m : ModuleView) (w : World) (top : Activation) (way : Way) (a n : ℕ) → MayDo m w top way (Write a n) → MayWrite m w top a n
 write_by m w top Ordinary a n may = may
 write_by m w top Return a n may = may
 write_by m w top Direct a n may = may
 write_by m w top Indirect a n may = may
 
-module _ (m : Module) (w : World) (top : Activation) (way : Way) (laid : IsLaidOut m.image m.imports w) (framed : IsFramed w top) where
+module _ (m : ModuleView) (w : World) (top : Activation) (way : Way) (laid : IsLaidOut m.image m.imports w) (framed : IsFramed w top) where
   pub heap_read : (a n q : ℕ) → a ≤ q → q < a + n → w.heap - 8 ≤ q → q < w.heap + 2 ^ 33 → MayDo m w top way (Read a n) → ((w.heap ≤ a) × (a + n ≤ w.heap + 2 ^ 33)) ⊎ ((a + 8 ≡ w.heap) × (n ≡ 8))
   heap_read a n q low high one two may =
       let frame_low = framed.low in
@@ -118,7 +118,7 @@ module _ (m : Module) (w : World) (top : Activation) (way : Way) (laid : IsLaidO
         | inr back ↦ let x = back.0 in omega arith
       ]
 
-pub in_guard : (m : Module) (w : World) (top : Activation) → IsLaidOut m.image m.imports w → IsFramed w top → MayDo m w top Ordinary (Write (w.stack_low - 8192) 8)
+pub in_guard : (m : ModuleView) (w : World) (top : Activation) → IsLaidOut m.image m.imports w → IsFramed w top → MayDo m w top Ordinary (Write (w.stack_low - 8192) 8)
 in_guard m w top laid framed =
     let room = laid.room_below_stack in
     let low = framed.low in
@@ -153,7 +153,7 @@ NoneBegins = (a b x y : List ℕ) (i j : Insn) → Spells a i → Spells b j →
 same_code : {i j : Insn} {len other : ℕ} → i ≡ j → len ≡ other → Code i len ≡ Code j other
 same_code p q = cc
 
-module _ (law : NoneBegins) (m : Module) (w : World) (laid : IsLaidOut m.image m.imports w) (top : Activation) (rip : ℕ) where
+module _ (law : NoneBegins) (m : ModuleView) (w : World) (laid : IsLaidOut m.image m.imports w) (top : Activation) (rip : ℕ) where
   spelled_once : (i j : Insn) (len other : ℕ) → IsSpelledAt m w top rip i len → IsSpelledAt m w top rip j other → Code i len ≡ Code j other
   spelled_once i j len other one two =
       let bytes = m.byte w in
@@ -227,7 +227,7 @@ module _ (law : NoneBegins) (m : Module) (w : World) (laid : IsLaidOut m.image m
   stands_once Nowhere Probe one two = elim one [ inl none ↦ absurd (two.0 none.0) | inr outside ↦ absurd (outside.3 two.2) ]
   stands_once Nowhere Nowhere one two = refl
 
-pub thing_stands_once : NoneBegins → (m : Module) (w : World) (rip : ℕ) (active : List Activation) (here other : Here) → IsLaidOut m.image m.imports w → StandsAt m w rip active here → StandsAt m w rip active other → here ≡ other
+pub thing_stands_once : NoneBegins → (m : ModuleView) (w : World) (rip : ℕ) (active : List Activation) (here other : Here) → IsLaidOut m.image m.imports w → StandsAt m w rip active here → StandsAt m w rip active other → here ≡ other
 thing_stands_once law m w rip [] (Code i len) other laid one two = absurd one
 thing_stands_once law m w rip [] (Stub slot) other laid one two = absurd one
 thing_stands_once law m w rip [] Host other laid one two = absurd one
@@ -239,7 +239,7 @@ thing_stands_once law m w rip [] Nowhere Probe laid one two = absurd two
 thing_stands_once law m w rip [] Nowhere Nowhere laid one two = refl
 thing_stands_once law m w rip (top ∷ rest) here other laid one two = stands_once law m w laid top rip here other one two
 
-module _ (m : Module) (w : World) (s : State) (top : Activation) (rest : List Activation) (event : Event) (inside : IsInside m w top s.rip) (none : (i : Insn) (len : ℕ) → IsSpelledAt m w top s.rip i len → ⊥) where
+module _ (m : ModuleView) (w : World) (s : MachineState) (top : Activation) (rest : List Activation) (event : Event) (inside : IsInside m w top s.rip) (none : (i : Insn) (len : ℕ) → IsSpelledAt m w top s.rip i len → ⊥) where
   not_inside : (here : Here) → StandsAt m w s.rip (top ∷ rest) here → here ≡ Nowhere
   not_inside (Code i len) stands = absurd (none i len stands)
   not_inside (Stub slot) stands = absurd (stands.0 inside)
@@ -247,7 +247,7 @@ module _ (m : Module) (w : World) (s : State) (top : Activation) (rest : List Ac
   not_inside Probe stands = absurd (stands.0 inside)
   not_inside Nowhere stands = refl
 
-pub refused : (m : Module) (w : World) (s : State) (top : Activation) (rest : List Activation) (event : Event) → s.active ≡ top ∷ rest → IsInside m w top s.rip → ((i : Insn) (len : ℕ) → IsSpelledAt m w top s.rip i len → ⊥) → IsPermitted m w s event → ⊥
+pub refused : (m : ModuleView) (w : World) (s : MachineState) (top : Activation) (rest : List Activation) (event : Event) → s.active ≡ top ∷ rest → IsInside m w top s.rip → ((i : Insn) (len : ℕ) → IsSpelledAt m w top s.rip i len → ⊥) → IsPermitted m w s event → ⊥
 refused m w s top rest event active inside none (here, stands, may) =
     let stands_here : StandsAt m w s.rip (top ∷ rest) here = rw active at stands in
     let may_here : PermittedOf m w (top ∷ rest) here event = rw active at may in

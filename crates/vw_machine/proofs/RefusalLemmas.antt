@@ -5,15 +5,15 @@ use Rattle.vw_machine.specs.declared.world.World.{World}
 use Rattle.vw_machine.specs.declared.choice.Choice.{Choice}
 use Rattle.vw_machine.specs.declared.event.Event.{Event}
 use Rattle.vw_machine.specs.declared.event.Event.TheVariants.{Goto}
-use Rattle.vw_machine.specs.Module.{Module}
-use Rattle.vw_machine.specs.State.{Activation, State}
+use Rattle.vw_machine.specs.Module.{ModuleView}
+use Rattle.vw_machine.specs.State.{Activation, MachineState}
 use Rattle.vw_machine.specs.Standing.{Here, Nowhere}
 use Rattle.vw_machine.specs.Events.{events, events_of}
 use Rattle.vw_machine.specs.Permitted.{Permitted, PermittedOf}
 use Rattle.vw_machine.specs.Answers.{IsFirstRefused}
 use Rattle.vw_machine.specs.Found.{IsRefusal}
 
-module _ (m : Module) (w : World) (s : State) (here : Here) where
+module _ (m : ModuleView) (w : World) (s : MachineState) (here : Here) where
   abbrev AreAllPermitted : List Event → Type 0
   AreAllPermitted all = AllByRecursion (Permitted m w s here) all
 
@@ -47,7 +47,7 @@ module _ (m : Module) (w : World) (s : State) (here : Here) where
   refusal_behind xs ys (Some event) all first = refused_behind xs ys event all first
 
 -- where nothing stands, the transfer to rip is refused
-pub refused_nowhere : (m : Module) (w : World) (s : State) (choice : Choice) → IsFirstRefused m w s Nowhere (events m w s Nowhere choice) (Goto s.rip)
+pub refused_nowhere : (m : ModuleView) (w : World) (s : MachineState) (choice : Choice) → IsFirstRefused m w s Nowhere (events m w s Nowhere choice) (Goto s.rip)
 refused_nowhere m w s choice = record { before = []; behind = []; in_order = one s.active; permitted = tt; refused = none s.active }
   where
     one : (active : List Activation) → events_of m w s active Nowhere choice ≡ Goto s.rip ∷ []

@@ -4,7 +4,7 @@ use Rattle.std.specs.Prelude.{Contains}
 use Rattle.std.specs.List.{AllByRecursion}
 use Rattle.vw_machine.specs.declared.world.World.{World}
 use Rattle.vw_machine.specs.World.{Range, IsLaidOut, IsIn, IsWithin, AreApart, IsBelowTop, instance_ranges, globals_range, heap_range, loaded_range}
-use Rattle.vw_machine.specs.Module.{Module}
+use Rattle.vw_machine.specs.Module.{ModuleView}
 use Rattle.vw_machine.specs.State.{Activation}
 use Rattle.vw_machine.specs.Permitted.{MayRead, MayWrite}
 use Rattle.vw_machine.specs.Laws.{IsFramed}
@@ -67,7 +67,7 @@ module _ {image : List Range} {imports : ℕ} {w : World} (laid : IsLaidOut imag
   pub image_low : (part : Range) → Contains image part → (a : ℕ) → IsIn a (loaded_range w part) → a < 2 ^ 47
   image_low part of_image a inside = all_of (λ (p : Range). IsBelowTop (loaded_range w p)) image laid.image_ends part of_image a inside
 
-module _ (m : Module) (w : World) (top : Activation) (laid : IsLaidOut m.image m.imports w) (framed : IsFramed w top) (a n q : ℕ) (low : a ≤ q) (high : q < a + n) where
+module _ (m : ModuleView) (w : World) (top : Activation) (laid : IsLaidOut m.image m.imports w) (framed : IsFramed w top) (a n q : ℕ) (low : a ≤ q) (high : q < a + n) where
   -- a byte of the heap, or of the word before it, is read in the heap or with that word
   pub read_in_heap : w.heap - 8 ≤ q → q < w.heap + 2 ^ 33 → MayRead m w top a n → IsWithin a n (heap_range w) ⊎ ((a + 8 ≡ w.heap) × (n ≡ 8))
   read_in_heap one two may =

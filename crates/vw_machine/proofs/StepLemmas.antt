@@ -12,8 +12,8 @@ use Rattle.vw_machine.specs.declared.event.Outcome.{Outcome}
 use Rattle.vw_machine.specs.declared.event.Outcome.TheVariants as outcome
 use Rattle.vw_machine.specs.declared.machine.Frame.{Frame}
 use Rattle.vw_machine.specs.declared.doing.Work.{Work}
-use Rattle.vw_machine.specs.Module.{Module}
-use Rattle.vw_machine.specs.State.{Bytes, Activation, State, after_writes}
+use Rattle.vw_machine.specs.Module.{ModuleView}
+use Rattle.vw_machine.specs.State.{Bytes, Activation, MachineState, after_writes}
 use Rattle.vw_machine.specs.Standing.{Here, Code, StandsAt}
 use Rattle.vw_machine.specs.Step.{Trapped, after_insn, accesses, does_trap, arrive, left, go, step, step_of, step_from}
 use Rattle.vw_machine.specs.Events.{transfer_events}
@@ -23,7 +23,7 @@ use Rattle.vw_machine.specs.Found.{IsWork, IsEnding, active_after, work_ending}
 use Rattle.vw_machine.proofs.FrameLemmas.{activations_of-push}
 
 -- the state that has these parts
-abbrev pub state : Registers → ℕ → Flags → Bytes → List Activation → State
+abbrev pub state : Registers → ℕ → Flags → Bytes → List Activation → MachineState
 state registers rip flags bytes active = record { registers = registers; rip = rip; flags = flags; bytes = bytes; active = active }
 
 pub same_state : (registers : Registers) (i j : ℕ) (f g : Flags) (a b : Bytes) (xs ys : List Activation) → i ≡ j → f ≡ g → a ≡ b → xs ≡ ys → state registers i f a xs ≡ state registers j g b ys
@@ -46,7 +46,7 @@ taken frames rest frame top others is active =
     let same : activation_of frame ∷ activations_of rest ≡ top ∷ others = sym (activations_of-push rest frame) ∙ sym (ap activations_of is) ∙ active in
     (same_head (activation_of frame) top (activations_of rest) others same, same_tail (activation_of frame) top (activations_of rest) others same)
 
-module _ (w : World) (s : State) (top : Activation) (rest : List Activation) where
+module _ (w : World) (s : MachineState) (top : Activation) (rest : List Activation) where
   goes_by : (after : After) (next to : ℕ) (traps : Bool) (transfer : Transfer) → Goto to ∷ [] ≡ (if traps then [] else transfer_events next transfer)
       → (if traps then Trapped else go w s top rest after next transfer)
       ≡ arrive w (left w s after to (active_after after next transfer (after_writes w top after.writes) rest))
@@ -73,7 +73,7 @@ module _ (w : World) (s : State) (top : Activation) (rest : List Activation) whe
   goes work to is = goes_by (after_of work.after) work.next to work.traps (transfer_of work.after.transfer) is
 
   -- the ending of a step of an instruction is that of what it does
-  pub ending_of_work : (m : Module) (i : Insn) (len : ℕ) (choice : Choice) (work : Work) → IsWork m w s i len choice work → work_ending w s top rest work ≡ step_from m w s top rest (Code i len) choice
+  pub ending_of_work : (m : ModuleView) (i : Insn) (len : ℕ) (choice : Choice) (work : Work) → IsWork m w s i len choice work → work_ending w s top rest work ≡ step_from m w s top rest (Code i len) choice
   ending_of_work m i len choice work is =
       let f = λ (traps : Bool) (after : After) (next : ℕ). if traps then Trapped else go w s top rest after next after.transfer in
       let after = after_insn m w s i len choice in
@@ -81,8 +81,8 @@ module _ (w : World) (s : State) (top : Activation) (rest : List Activation) whe
       ∙ ap (λ (b : Bool). f b after work.next) is.whether_it_traps
       ∙ ap (λ (n : ℕ). f (does_trap w i (accesses (reads i (s.rip + len) s.registers) after.writes) choice) after n) is.what_is_next
 
-module _ (m : Module) (w : World) (s : State) (choice : Choice) (here : Here) where
-  ends : (found : Outcome) (s' : State) → AllPermitted m w s choice here → IsEnding s (step m w s here choice) found s' → EndsAs m w s choice here found s'
+module _ (m : ModuleView) (w : World) (s : MachineState) (choice : Choice) (here : Here) where
+  ends : (found : Outcome) (s' : MachineState) → AllPermitted m w s choice here → IsEnding s (step m w s here choice) found s' → EndsAs m w s choice here found s'
   ends outcome.Went s' all is = (all, is)
   ends outcome.Returned s' all is = (all, is)
   ends outcome.Trapped s' all is = (all, is.0, is.1)
@@ -90,7 +90,7 @@ module _ (m : Module) (w : World) (s : State) (choice : Choice) (here : Here) wh
 
   -- what ends a step where the activation that makes it is known ends it
   pub ends_by : ¬ StandsAt m w s.rip [] here → StandsAt m w s.rip s.active here → AllPermitted m w s choice here
-      → (found : Outcome) (s' : State)
+      → (found : Outcome) (s' : MachineState)
       → ((top : Activation) (rest : List Activation) → s.active ≡ top ∷ rest → IsEnding s (step_from m w s top rest here choice) found s')
       → EndsAs m w s choice here found s'
   ends_by none stands all found s' ending = ends found s' all (by_active s.active refl stands)

@@ -11,7 +11,7 @@ use Rattle.vw_image.specs.Bounds.{AreBounded}
 use Rattle.vw_layout.specs.declared.layout.Module.{Module as Declared}
 use Rattle.vw_layout.specs.Layout.{IsWhole}
 use Rattle.vw_machine.specs.World.{Range, IsLaidOut, IsIn, AreApart, IsBelowTop, IsHostAddress, instance_ranges, loaded_range, usual_hosts, usual_instance}
-use Rattle.vw_machine.specs.Module.{Module, segment_range, view_of}
+use Rattle.vw_machine.specs.Module.{ModuleView, segment_range, view_of}
 
 apart_in_instance : (imports : ℕ) → AllPairs AreApart (instance_ranges (usual_instance imports))
 unfolding usual_instance
@@ -73,11 +73,11 @@ hosts_distinct count (suc i) (suc j) d less inside same =
     omega (arith, less, same, first, second)
 
 -- what the rules give of a module: its image ends at or before 2^31, and it has at most 65,536 imports
-pub record IsLimited (m : Module) : Type 0 where
+pub record IsLimited (m : ModuleView) : Type 0 where
   pub ends : AllByRecursion (λ part. part.to ≤ 2 ^ 31) m.image
   pub imports : m.imports ≤ 65536
 
-pub laid_out : (m : Module) → IsLimited m → IsLaidOut m.image m.imports (usual_instance m.imports)
+pub laid_out : (m : ModuleView) → IsLimited m → IsLaidOut m.image m.imports (usual_instance m.imports)
 unfolding usual_instance usual_hosts
 laid_out m limited =
     record {

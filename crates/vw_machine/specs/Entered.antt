@@ -4,11 +4,11 @@ use Rattle.vw_bits.specs.Fields.{load}
 use Rattle.vw_insn.specs.Words.{Registers}
 use Rattle.vw_layout.specs.declared.functions.Function.{Function}
 use Rattle.vw_machine.specs.declared.world.World.{World}
-use Rattle.vw_machine.specs.State.{State}
+use Rattle.vw_machine.specs.State.{MachineState}
 
 -- The state in which the host enters a function: rip is its entry, rdi the heap's base, rsp leaves
 -- room below the stack's end, and the host's return address is on top. All else is free.
-pub record IsInitial (w : World) (f : Function) (s : State) : Type 0 where
+pub record IsInitial (w : World) (f : Function) (s : MachineState) : Type 0 where
   pub rip : s.rip ≡ w.load + f.entry
   pub rdi : s.registers 7 ≡ w.heap
   pub rsp_low : w.stack_low ≤ s.registers 4
@@ -30,7 +30,7 @@ pub record IsAlone (rsp rdi : ℕ) (registers : Registers) : Type 0 where
   pub others : (r : ℕ) → r ≢ 4 → r ≢ 7 → registers r ≡ 0
 
 -- the one of these with this rsp in which all that is free is 0
-pub record IsCleared (w : World) (f : Function) (rsp : ℕ) (s : State) : Type 0 where
+pub record IsCleared (w : World) (f : Function) (rsp : ℕ) (s : MachineState) : Type 0 where
   pub initial : IsInitial w f s
   pub registers : IsAlone rsp w.heap s.registers
   pub flags : s.flags ≡ record { carry = false; parity = false; is_zero = false; sign = false; overflow = false }

@@ -7,8 +7,8 @@ use Rattle.vw_machine.specs.declared.world.World.{World}
 use Rattle.vw_machine.specs.declared.choice.Choice.{Choice}
 use Rattle.vw_machine.specs.declared.event.Event.{Event}
 use Rattle.vw_machine.specs.declared.event.Event.TheVariants.{Read, Write, Goto}
-use Rattle.vw_machine.specs.Module.{Module}
-use Rattle.vw_machine.specs.State.{Activation, State}
+use Rattle.vw_machine.specs.Module.{ModuleView}
+use Rattle.vw_machine.specs.State.{Activation, MachineState}
 use Rattle.vw_machine.specs.Standing.{Here, Code, Stub, Host, Probe, Nowhere}
 use Rattle.vw_machine.specs.Step.{after_insn, accesses, does_trap, slot_word, slot_address, probe_traps}
 
@@ -26,9 +26,9 @@ read_events all = map (λ a. Read a.at a.size) all
 abbrev pub write_events : List Access → List Event
 write_events all = map (λ a. Write a.at a.size) all
 
-module _ (m : Module) (w : World) where
+module _ (m : ModuleView) (w : World) where
   -- the reads, the writes and then the transfer of an instruction; one that traps has no transfer
-  abbrev pub insn_events : State → Insn → ℕ → Choice → List Event
+  abbrev pub insn_events : MachineState → Insn → ℕ → Choice → List Event
   insn_events s i len choice =
       let after = after_insn m w s i len choice in
       let rs = reads i (s.rip + len) s.registers in
@@ -38,17 +38,17 @@ module _ (m : Module) (w : World) where
 
   -- A stub reads its slot and goes to the word there. A host step has its transfer alone, and the probe none where it
   -- traps. Where nothing stands, the one event is the transfer to rip.
-  abbrev pub events_from : State → Activation → Here → Choice → List Event
+  abbrev pub events_from : MachineState → Activation → Here → Choice → List Event
   events_from s top (Code i len) choice = insn_events s i len choice
   events_from s top (Stub slot) choice = Read (slot_address w slot) 8 ∷ Goto (slot_word m w slot) ∷ []
   events_from s top Host choice = Goto top.back ∷ []
   events_from s top Probe choice = if probe_traps w s.registers then [] else Goto top.back ∷ []
   events_from s top Nowhere choice = Goto s.rip ∷ []
 
-  abbrev pub events_of : State → List Activation → Here → Choice → List Event
+  abbrev pub events_of : MachineState → List Activation → Here → Choice → List Event
   events_of s [] here choice = Goto s.rip ∷ []
   events_of s (top ∷ rest) here choice = events_from s top here choice
 
   -- the events of the next step, of what stands at rip
-  abbrev pub events : State → Here → Choice → List Event
+  abbrev pub events : MachineState → Here → Choice → List Event
   events s here choice = events_of s s.active here choice

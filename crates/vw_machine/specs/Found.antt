@@ -20,16 +20,16 @@ use Rattle.vw_machine.specs.declared.event.Event.{Event}
 use Rattle.vw_machine.specs.declared.event.Outcome.{Outcome}
 use Rattle.vw_machine.specs.declared.event.Outcome.TheVariants as outcome
 use Rattle.vw_machine.specs.declared.event.Event.TheVariants.{Goto}
-use Rattle.vw_machine.specs.declared.standing.Place.{Place}
-use Rattle.vw_machine.specs.declared.standing.Place.TheVariants as place
+use Rattle.vw_machine.specs.declared.standing.Position.{Position}
+use Rattle.vw_machine.specs.declared.standing.Position.TheVariants as position
 use Rattle.vw_machine.specs.declared.standing.Thing.{Thing}
 use Rattle.vw_machine.specs.declared.standing.Thing.TheVariants as thing
 use Rattle.vw_machine.specs.declared.doing.Deeds.{Deeds}
 use Rattle.vw_machine.specs.declared.doing.Work.{Work}
 use Rattle.vw_machine.specs.declared.choice.Choice.{Choice}
 use Rattle.vw_machine.specs.World.{is_within, touches, guard_range, heap_range, loaded_range}
-use Rattle.vw_machine.specs.Module.{Module, is_in_table}
-use Rattle.vw_machine.specs.State.{Activation, State}
+use Rattle.vw_machine.specs.Module.{ModuleView, is_in_table}
+use Rattle.vw_machine.specs.State.{Activation, MachineState}
 use Rattle.vw_machine.specs.Standing.{Here, Code, Stub, Host, Probe, Nowhere, IsInside, IsSpelledAt, IsHostAt, IsProbeAt}
 use Rattle.vw_machine.specs.Step.{Ending, Went, Returned, Trapped, after_insn, accesses, does_trap, slot_word, entered, go, arrive, host_leaves, probe_traps}
 use Rattle.vw_machine.specs.Permitted.{is_pointer, Permitted}
@@ -52,7 +52,7 @@ IsRelocated Mixed = ⊥
 IsRelocated Outside = ⊥
 
 -- the byte at an address is one of the image
-abbrev pub is_image_byte : Module → World → ℕ → Bool
+abbrev pub is_image_byte : ModuleView → World → ℕ → Bool
 is_image_byte m w a = list_any (λ part. is_within a 1 (loaded_range w part)) m.image
 
 -- the byte at a place is one of the image that may be read
@@ -68,12 +68,12 @@ is_entry_to w to entry = not (is_empty_tag entry.tag) && is_pointer w entry.poin
 abbrev pub has_entry_to : World → ℕ → TableInfo → Bool
 has_entry_to w to table = list_any (is_entry_to w to) table.entries
 
-module _ (m : Module) (w : World) where
-  -- the place is where rip lies, seen from the declared function of the activation
-  abbrev pub IsPlaceOf : Activation → ℕ → Place → Type 0
-  IsPlaceOf top rip place.Outside = ¬ IsInside m w top rip
-  IsPlaceOf top rip place.Unspelled = IsInside m w top rip × ((i : Insn) (len : ℕ) → ¬ IsSpelledAt m w top rip i len)
-  IsPlaceOf top rip (place.Spelled i len) = IsSpelledAt m w top rip i len × IsListed i
+module _ (m : ModuleView) (w : World) where
+  -- this is where rip lies, seen from the declared function of the activation
+  abbrev pub IsPositionOf : Activation → ℕ → Position → Type 0
+  IsPositionOf top rip position.Outside = ¬ IsInside m w top rip
+  IsPositionOf top rip position.Unspelled = IsInside m w top rip × ((i : Insn) (len : ℕ) → ¬ IsSpelledAt m w top rip i len)
+  IsPositionOf top rip (position.Spelled i len) = IsSpelledAt m w top rip i len × IsListed i
 
   -- what is known of a thing beside where it stands
   abbrev pub IsKnown : Thing → Type 0
@@ -116,19 +116,19 @@ work_events work =
     ++ (if work.traps then [] else transfer_events work.next (transfer_of work.after.transfer))
 
 -- what is behind an instruction of this length, what it reads, what it leaves, and whether it traps
-pub record IsWork (m : Module) (w : World) (s : State) (i : Insn) (len : ℕ) (choice : Choice) (work : Work) : Type 0 where
+pub record IsWork (m : ModuleView) (w : World) (s : MachineState) (i : Insn) (len : ℕ) (choice : Choice) (work : Work) : Type 0 where
   pub what_is_next : work.next ≡ s.rip + len
   pub what_is_read : reads_of work.reads ≡ reads i (s.rip + len) s.registers
   pub what_is_left : after_of work.after ≡ after_insn m w s i len choice
   pub whether_it_traps : work.traps ≡ does_trap w i (accesses (reads i (s.rip + len) s.registers) (after_insn m w s i len choice).writes) choice
 
 -- the first of these events that is not permitted, or that each is
-abbrev pub IsRefusal : Module → World → State → Here → List Event → Option Event → Type 0
+abbrev pub IsRefusal : ModuleView → World → MachineState → Here → List Event → Option Event → Type 0
 IsRefusal m w s here all None = AllByRecursion (Permitted m w s here) all
 IsRefusal m w s here all (Some event) = IsFirstRefused m w s here all event
 
 -- a step from a state has this ending, seen by what the code answers and by the state that it leaves
-abbrev pub IsEnding : State → Ending → Outcome → State → Type 0
+abbrev pub IsEnding : MachineState → Ending → Outcome → MachineState → Type 0
 IsEnding s ending outcome.Went s' = ending ≡ Went s'
 IsEnding s ending outcome.Returned s' = ending ≡ Returned s'
 IsEnding s ending outcome.Trapped s' = (ending ≡ Trapped) × (s' ≡ s)
@@ -143,12 +143,12 @@ active_after after next (Back to) top rest = rest
 active_after after next Stop top rest = rest
 
 -- the ending of a step of an instruction
-abbrev pub work_ending : World → State → Activation → List Activation → Work → Ending
+abbrev pub work_ending : World → MachineState → Activation → List Activation → Work → Ending
 work_ending w s top rest work =
     if work.traps then Trapped else go w s top rest (after_of work.after) work.next (transfer_of work.after.transfer)
 
 -- the ending of a step of the probe
-abbrev pub probe_ending : World → State → Activation → List Activation → Choice → Ending
+abbrev pub probe_ending : World → MachineState → Activation → List Activation → Choice → Ending
 probe_ending w s top rest choice =
     if probe_traps w s.registers then Trapped
     else arrive w (host_leaves w s top rest (put s.registers 4 (raised (s.registers 4))) choice)

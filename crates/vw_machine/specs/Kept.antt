@@ -5,7 +5,7 @@ use Rattle.std.specs.Ordering.{nat_cmp}
 use Rattle.vw_effect.specs.Meaning.{registers_of, status_of}
 use Rattle.vw_machine.specs.declared.machine.Frame.{Frame}
 use Rattle.vw_machine.specs.declared.machine.Machine.{Machine}
-use Rattle.vw_machine.specs.State.{Activation, State}
+use Rattle.vw_machine.specs.State.{Activation, MachineState}
 
 -- a byte that is not kept is 0
 abbrev pub byte_in : BTreeMap ℕ ℕ → ℕ → ℕ
@@ -22,7 +22,7 @@ activation_of frame = record { entry = frame.entry; rsp0 = frame.rsp0; back = fr
 abbrev pub activations_of : List Frame → List Activation
 activations_of frames = reverse (map activation_of frames)
 
-abbrev pub state_of : Machine → State
+abbrev pub state_of : Machine → MachineState
 state_of machine = record {
   registers = registers_of machine.registers;
   rip = machine.rip;

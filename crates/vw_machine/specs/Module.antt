@@ -14,7 +14,7 @@ use Rattle.vw_machine.specs.declared.world.World.{World}
 use Rattle.vw_machine.specs.World.{Range}
 
 -- Places count from the load address.
-pub record Module : Type 0 where
+pub record ModuleView : Type 0 where
   -- the parts of memory that its loadable segments take up
   pub image : List Range
   -- the byte at a place after relocation, in an instance
@@ -50,7 +50,7 @@ abbrev pub declared_module : List ℕ → Declared
 declared_module file = record { functions = declared_functions file; tables = declared_tables file; image = image_of file }
 
 -- A module as the machine sees it.
-abbrev pub view_of : Declared → Module
+abbrev pub view_of : Declared → ModuleView
 view_of declared = record {
   image = map segment_range declared.image.segments;
   byte = λ w a. image_byte declared.image w.load (slice_index w.hosts) a;
@@ -63,5 +63,5 @@ view_of declared = record {
 }
 
 -- The module of a file, as the machine sees it.
-unfoldable pub module_of : List ℕ → Module
+unfoldable pub module_of : List ℕ → ModuleView
 module_of file = view_of (declared_module file)

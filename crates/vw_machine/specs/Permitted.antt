@@ -13,8 +13,8 @@ use Rattle.vw_machine.specs.declared.world.World.{World}
 use Rattle.vw_machine.specs.declared.event.Event.{Event}
 use Rattle.vw_machine.specs.declared.event.Event.TheVariants.{Read, Write, Goto}
 use Rattle.vw_machine.specs.World.{Range, IsWithin, IsIn, loaded_range, heap_range, globals_range}
-use Rattle.vw_machine.specs.Module.{Module, is_in_table}
-use Rattle.vw_machine.specs.State.{Activation, State}
+use Rattle.vw_machine.specs.Module.{ModuleView, is_in_table}
+use Rattle.vw_machine.specs.State.{Activation, MachineState}
 use Rattle.vw_machine.specs.Standing.{Here, Code, Stub, Host, Probe, Nowhere, IsOf, function_range, StandsAt}
 use Rattle.vw_machine.specs.Step.{slot_word, slot_address}
 
@@ -26,7 +26,7 @@ is_pointer w (Bound number) to = to == slice_index w.hosts number
 is_pointer w Mixed to = false
 is_pointer w Outside to = false
 
-module _ (m : Module) (w : World) where
+module _ (m : ModuleView) (w : World) where
   -- the byte at q is one of the image that may be read: a readable one, or one of a declared table
   pub record IsReadableAt (q : ℕ) : Type 0 where
     pub part : Range
@@ -112,9 +112,9 @@ module _ (m : Module) (w : World) where
   PermittedOf (top ∷ rest) here event = PermittedFrom top here event
 
   -- an event of the next step is permitted; where no step is defined, none is
-  abbrev pub Permitted : State → Here → Event → Type 0
+  abbrev pub Permitted : MachineState → Here → Event → Type 0
   Permitted s here event = PermittedOf s.active here event
 
   -- an event is permitted from a state, whatever stands at rip
-  abbrev pub IsPermitted : State → Event → Type 0
+  abbrev pub IsPermitted : MachineState → Event → Type 0
   IsPermitted s event = (here : Here) × StandsAt m w s.rip s.active here × Permitted s here event

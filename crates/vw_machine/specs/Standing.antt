@@ -6,7 +6,7 @@ use Rattle.vw_image.specs.declared.stub.Stub as image_stub
 use Rattle.vw_layout.specs.declared.functions.Function.{Function}
 use Rattle.vw_machine.specs.declared.world.World.{World}
 use Rattle.vw_machine.specs.World.{Range, IsWithin, IsIn}
-use Rattle.vw_machine.specs.Module.{Module, bytes_from}
+use Rattle.vw_machine.specs.Module.{ModuleView, bytes_from}
 use Rattle.vw_machine.specs.State.{Activation}
 
 -- what stands at rip
@@ -25,7 +25,7 @@ pub data Here : Type 0 where
 abbrev pub function_range : World → Function → Range
 function_range w f = record { from = w.load + f.entry; to = w.load + f.entry + f.size }
 
-module _ (m : Module) (w : World) where
+module _ (m : ModuleView) (w : World) where
   -- the activation is one of this declared function
   abbrev pub IsOf : Activation → Function → Type 0
   IsOf top f = Contains m.functions f × (top.entry ≡ w.load + f.entry)

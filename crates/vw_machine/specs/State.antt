@@ -21,7 +21,7 @@ pub record Activation : Type 0 where
   -- the bytes of its frame that it has written, by address
   pub written : ℕ → Bool
 
-pub record State : Type 0 where
+pub record MachineState : Type 0 where
   pub registers : Registers
   pub rip : ℕ
   pub flags : Flags

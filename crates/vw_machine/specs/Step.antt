@@ -10,12 +10,12 @@ use Rattle.vw_stmt.specs.Accesses.{places_of}
 use Rattle.vw_machine.specs.declared.world.World.{World}
 use Rattle.vw_machine.specs.declared.choice.Choice.{Choice}
 use Rattle.vw_machine.specs.World.{is_within, touches, heap_range, stack_range, guard_range, loaded_range}
-use Rattle.vw_machine.specs.Module.{Module}
-use Rattle.vw_machine.specs.State.{Bytes, Activation, State, is_in_stack, store, after_writes}
+use Rattle.vw_machine.specs.Module.{ModuleView}
+use Rattle.vw_machine.specs.State.{Bytes, Activation, MachineState, is_in_stack, store, after_writes}
 use Rattle.vw_machine.specs.Choices.{number_of, flags_in, open_of}
 use Rattle.vw_machine.specs.Standing.{Here, Code, Stub, Host, Probe, Nowhere}
 
-module _ (m : Module) (w : World) where
+module _ (m : ModuleView) (w : World) where
   -- each of n bytes from a is a byte of the image
   abbrev pub is_in_image : ℕ → ℕ → Bool
   is_in_image a zero = true
@@ -35,7 +35,7 @@ module _ (m : Module) (w : World) where
       else number_of choice 0 % 256 ^ n))
 
   -- what an instruction of this length does from a state
-  abbrev pub after_insn : State → Insn → ℕ → Choice → After
+  abbrev pub after_insn : MachineState → Insn → ℕ → Choice → After
   after_insn s i len choice =
       let next = s.rip + len in
       effect i next s.registers s.flags (first_loaded (loads choice) s.bytes (reads i next s.registers)) (open_of choice)
@@ -61,19 +61,19 @@ accesses rs writes = rs ++ places_of writes
 
 -- how a step ends
 pub data Ending : Type 0 where
-  Went : State → Ending
+  Went : MachineState → Ending
   -- rip is the host's return address
-  Returned : State → Ending
+  Returned : MachineState → Ending
   -- the state stays as it was
   Trapped : Ending
   -- no step is defined
   Stuck : Ending
 
-abbrev pub arrive : World → State → Ending
+abbrev pub arrive : World → MachineState → Ending
 arrive w s = if s.rip == w.host_return then Returned s else Went s
 
 -- the state that an instruction leaves, with these activations
-abbrev pub left : World → State → After → ℕ → List Activation → State
+abbrev pub left : World → MachineState → After → ℕ → List Activation → MachineState
 left w s after rip active =
     record { registers = after.registers; rip = rip; flags = after.flags; bytes = stored (store w) s.bytes after.writes; active = active }
 
@@ -84,7 +84,7 @@ entered after next to = record { entry = to; rsp0 = after.registers 4; back = ne
 
 -- An instruction goes on by its transfer. What it writes counts for the activation that makes it, also the return
 -- address that a call pushes. A return ends the activation.
-abbrev pub go : World → State → Activation → List Activation → After → ℕ → Transfer → Ending
+abbrev pub go : World → MachineState → Activation → List Activation → After → ℕ → Transfer → Ending
 go w s top rest after next Next = arrive w (left w s after next (after_writes w top after.writes ∷ rest))
 go w s top rest after next (To to) = arrive w (left w s after to (after_writes w top after.writes ∷ rest))
 go w s top rest after next (Enter to) = arrive w (left w s after to (entered after next to ∷ after_writes w top after.writes ∷ rest))
@@ -116,7 +116,7 @@ host_bytes w bytes rsp below =
     λ q. if is_left w rsp (length below) q then slice_index below (rsp - 1 - q) % 256 else bytes q
 
 -- the state after a function of the host that leaves these registers
-abbrev pub host_leaves : World → State → Activation → List Activation → Registers → Choice → State
+abbrev pub host_leaves : World → MachineState → Activation → List Activation → Registers → Choice → MachineState
 host_leaves w s top rest registers choice =
     record { registers = registers; rip = top.back; flags = flags_in choice.flags; bytes = host_bytes w s.bytes (s.registers 4) choice.below; active = rest }
 
@@ -125,10 +125,10 @@ host_leaves w s top rest registers choice =
 abbrev pub probe_traps : World → Registers → Bool
 probe_traps w registers = nat_lt (raised (registers 4)) (w.stack_low + registers 0)
 
-module _ (m : Module) (w : World) where
+module _ (m : ModuleView) (w : World) where
   -- A stub goes to the word in its slot, and its activation is then that of what stands there. The probe keeps all
   -- registers but rsp.
-  abbrev pub step_from : State → Activation → List Activation → Here → Choice → Ending
+  abbrev pub step_from : MachineState → Activation → List Activation → Here → Choice → Ending
   step_from s top rest (Code i len) choice =
       let after = after_insn m w s i len choice in
       if does_trap w i (accesses (reads i (s.rip + len) s.registers) after.writes) choice then Trapped
@@ -142,10 +142,10 @@ module _ (m : Module) (w : World) where
       else arrive w (host_leaves w s top rest (put s.registers 4 (raised (s.registers 4))) choice)
   step_from s top rest Nowhere choice = Stuck
 
-  abbrev pub step_of : State → List Activation → Here → Choice → Ending
+  abbrev pub step_of : MachineState → List Activation → Here → Choice → Ending
   step_of s [] here choice = Stuck
   step_of s (top ∷ rest) here choice = step_from s top rest here choice
 
   -- one step, of what stands at rip
-  abbrev pub step : State → Here → Choice → Ending
+  abbrev pub step : MachineState → Here → Choice → Ending
   step s here choice = step_of s s.active here choice

@@ -9,7 +9,7 @@ ghost use Rattle.vw_machine.specs.Module.{view_of};
 ghost use Rattle.vw_machine.specs.Standing.{IsInside, StandsFor, StandsAt};
 ghost use Rattle.vw_machine.specs.Step.{slot_word};
 ghost use Rattle.vw_machine.specs.Kept.{activation_of, state_of};
-ghost use Rattle.vw_machine.specs.Found.{IsPlaceOf, here_of, IsKnown, IsHostThing};
+ghost use Rattle.vw_machine.specs.Found.{IsPositionOf, here_of, IsKnown, IsHostThing};
 ghost use Rattle.vw_machine.specs.Answers.{IsPlaced};
 
 use crate::{Frame, Machine, World};
@@ -36,7 +36,7 @@ pub(crate) enum Thing {
 }
 
 // Where rip lies, seen from the function whose code it may be.
-enum Place {
+enum Position {
     Outside,
     // Inside, and nothing is spelled there.
     Unspelled,
@@ -85,13 +85,19 @@ pub(crate) fn entry_of(module: &Module, world: &World, number: u32) -> u64
 }
 
 // What is spelled at a point of the function that was entered last.
-fn spelled_in(module: &Module, world: &World, top: &Frame, function: &Function, point: u64) -> Place
+fn spelled_in(
+    module: &Module,
+    world: &World,
+    top: &Frame,
+    function: &Function,
+    point: u64,
+) -> Position
     requires whole { IsWhole «module».now }
     requires placed { IsPlaced «module».now world.now }
     requires listed { Contains «module».now.functions function.now }
     requires entered { top.now.entry ≡ world.now.load + function.now.entry }
     requires inside { point < function.now.size }
-    ensures { IsPlaceOf (view_of «module».now) world.now (activation_of top.now) (top.now.entry + point) result }
+    ensures { IsPositionOf (view_of «module».now) world.now (activation_of top.now) (top.now.entry + point) result }
 {
     functions_are_code();
     functions_ascend();
@@ -102,25 +108,25 @@ fn spelled_in(module: &Module, world: &World, top: &Frame, function: &Function, 
     let rest = function.size as u64 - point;
     match module.image.bytes_at(function.entry + point, rest) {
         Some(code) => match decode(code) {
-            Some((insn, len)) => Place::Spelled(insn, len as u32),
-            None => Place::Unspelled,
+            Some((insn, len)) => Position::Spelled(insn, len as u32),
+            None => Position::Unspelled,
         },
-        None => Place::Unspelled,
+        None => Position::Unspelled,
     }
 }
 
 // Where rip lies, seen from the function that was entered last.
-fn place_of(module: &Module, world: &World, top: &Frame, rip: u64) -> Place
+fn position_of(module: &Module, world: &World, top: &Frame, rip: u64) -> Position
     requires whole { IsWhole «module».now }
     requires placed { IsPlaced «module».now world.now }
-    ensures { IsPlaceOf (view_of «module».now) world.now (activation_of top.now) rip result }
+    ensures { IsPositionOf (view_of «module».now) world.now (activation_of top.now) rip result }
 {
     functions_ascend();
     let Some(function) = function_at(module, world, top.entry) else {
-        return Place::Outside;
+        return Position::Outside;
     };
     if rip < top.entry || function.size as u64 <= rip - top.entry {
-        return Place::Outside;
+        return Position::Outside;
     }
     spelled_in(module, world, top, function, rip - top.entry)
 }
@@ -278,10 +284,10 @@ fn thing_for(module: &Module, world: &World, top: &Frame, rip: u64) -> Thing
     ensures stands { StandsFor (view_of «module».now) world.now (activation_of top.now) rip (here_of result) }
     ensures known { IsKnown (view_of «module».now) world.now result }
 {
-    match place_of(module, world, top, rip) {
-        Place::Spelled(insn, len) => Thing::Insn(insn, len),
-        Place::Unspelled => Thing::Nowhere,
-        Place::Outside => thing_outside(module, world, top, rip),
+    match position_of(module, world, top, rip) {
+        Position::Spelled(insn, len) => Thing::Insn(insn, len),
+        Position::Unspelled => Thing::Nowhere,
+        Position::Outside => thing_outside(module, world, top, rip),
     }
 }
 

@@ -7,7 +7,7 @@ ghost use Rattle.vw_insn.specs.Effect.{raised};
 ghost use Rattle.vw_effect.specs.Meaning.{registers_of, after_of, transfer_of};
 ghost use Rattle.vw_layout.specs.Layout.{IsWhole};
 ghost use Rattle.vw_machine.specs.Module.{view_of};
-ghost use Rattle.vw_machine.specs.State.{Activation, State};
+ghost use Rattle.vw_machine.specs.State.{Activation, MachineState};
 ghost use Rattle.vw_machine.specs.Standing.{StandsAt, Code, Stub, Host, Probe};
 ghost use Rattle.vw_machine.specs.Step.{slot_word, arrive, host_registers, host_leaves};
 ghost use Rattle.vw_machine.specs.Kept.{activation_of, activations_of, state_of};
@@ -29,7 +29,7 @@ use vw_layout::Module;
 
 // How a step that went through ends, by where control has come to.
 fn arrival(machine: &Machine, world: &World) -> Outcome
-    ensures { (s : State) → IsEnding s (arrive world.now (state_of machine.now)) result
+    ensures { (s : MachineState) → IsEnding s (arrive world.now (state_of machine.now)) result
         (state_of machine.now) }
 {
     if machine.rip == world.host_return {

@@ -10,7 +10,7 @@ use Rattle.vw_layout.specs.declared.functions.Function.{Function}
 use Rattle.vw_machine.specs.declared.world.World.{World}
 use Rattle.vw_machine.specs.World.{Range, IsLaidOut}
 use Rattle.vw_machine.specs.Laws.{IsFramed}
-use Rattle.vw_machine.specs.Module.{Module}
+use Rattle.vw_machine.specs.Module.{ModuleView}
 use Rattle.vw_machine.specs.State.{Bytes, Activation, is_in_stack, is_one_of, is_in_frame, store, mark, after_writes}
 use Rattle.vw_machine.specs.Permitted.{MayWrite}
 use Rattle.vw_sandbox.specs.Maps.{Map}
@@ -37,7 +37,7 @@ byte_kept w bytes a n v q out = by_test (is_in_stack w q) (is_one_of a n q) refl
     by_test true false e f = refl
     by_test false t e f = refl
 
-module _ (m : Module) (w : World) {image : List Range} {imports : ℕ} (laid : IsLaidOut image imports w) where
+module _ (m : ModuleView) (w : World) {image : List Range} {imports : ℕ} (laid : IsLaidOut image imports w) where
   -- no address is in the globals and in the stack
   globals_or_stack : (a : ℕ) → w.globals ≤ a → a < w.globals + 4096 → w.stack_low ≤ a → a < w.stack_high → ⊥
   globals_or_stack a one two three four =
@@ -82,7 +82,7 @@ framed w top (v ∷ ws) f = framed w (mark w top v.at v.size) ws (one_framed w t
 
 -- ---- the chain
 
-module _ (m : Module) (w : World) (map : Map) (At : Function → ℕ → Registers → Activation → Moment → Type 0) (entered : Registers) where
+module _ (m : ModuleView) (w : World) (map : Map) (At : Function → ℕ → Registers → Activation → Moment → Type 0) (entered : Registers) where
   pub chain_kept : (old new : Bytes) {top : Activation} {rest : List Activation} {es : List Registers} → SameFrom top.rsp0 old new → Chain m w map At old entered (top ∷ rest) es → Chain m w map At new entered (top ∷ rest) es
   chain_kept old new same (host f) = host (record { rsp = f.rsp; back = f.back; return = load_from old new _ 8 same ∙ f.return })
   chain_kept old new same (call waits chain) =

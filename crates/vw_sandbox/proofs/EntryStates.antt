@@ -15,7 +15,7 @@ use Rattle.vw_domain.specs.Registers.{register_at, unknown_register}
 use Rattle.vw_domain.specs.Stands.{Machine, StandsWith, OffsetStands, clashes, content}
 use Rattle.vw_domain.specs.State.{plain_register, entry_registers, entry_state}
 use Rattle.vw_machine.specs.declared.world.World.{World}
-use Rattle.vw_machine.specs.Module.{Module}
+use Rattle.vw_machine.specs.Module.{ModuleView}
 use Rattle.vw_machine.specs.State.{Activation}
 use Rattle.vw_sandbox.specs.Assertions.{Moment, IsEntered}
 use Rattle.vw_sandbox.proofs.DomainLaws.{WritesInFrame}
@@ -84,7 +84,7 @@ none false e = false≢true e
 pub entry_writes : WritesInFrame (abstract_of entry_state)
 entry_writes o e = absurd (false≢true e)
 
-module _ (m : Module) (w : World) (ends : w.stack_high ≤ 2 ^ 47) (top : Activation) (now : Moment) (h : IsEntered m w top now) (tmp : ℕ) where
+module _ (m : ModuleView) (w : World) (ends : w.stack_high ≤ 2 ^ 47) (top : Activation) (now : Moment) (h : IsEntered m w top now) (tmp : ℕ) where
   abbrev M : Machine
   M = machine_of m w now.registers top now tmp
 

@@ -18,8 +18,8 @@ use Rattle.vw_machine.specs.declared.choice.Choice.{Choice}
 use Rattle.vw_machine.specs.declared.event.Event.{Event}
 use Rattle.vw_machine.specs.declared.event.Event.TheVariants.{Read, Write}
 use Rattle.vw_machine.specs.Laws.{IsFramed}
-use Rattle.vw_machine.specs.Module.{Module, bytes_from}
-use Rattle.vw_machine.specs.State.{Activation, State, after_writes}
+use Rattle.vw_machine.specs.Module.{ModuleView, bytes_from}
+use Rattle.vw_machine.specs.State.{Activation, MachineState, after_writes}
 use Rattle.vw_machine.specs.Standing.{Here, Code, IsOf, IsSpelledAt, IsHostAt}
 use Rattle.vw_machine.specs.Step.{Ending, Went, Returned, Trapped, arrive, after_insn, accesses, does_trap, entered as activation_at, go, step}
 use Rattle.vw_machine.specs.Events.{events, read_events, write_events, transfer_events}
@@ -58,7 +58,7 @@ each_write : (P : Event → Type 0) → ((a n : ℕ) → P (Write a n)) → (ws 
 each_write P h [] = tt
 each_write P h (v ∷ ws) = (h v.at v.size, each_write P h ws)
 
-module _ (m : Module) (w : World) (top : Activation) where
+module _ (m : ModuleView) (w : World) (top : Activation) where
   may_write : (k : Way) (a n : ℕ) → MayWrite m w top a n → MayDo m w top k (Write a n)
   may_write Ordinary a n h = h
   may_write Return a n h = h
@@ -100,20 +100,20 @@ is_equal : (a b : ℕ) → a ≡ b → (a == b) ≡ true
 is_equal a b e = grind (arith, nat_tests)
 
 -- a step keeps to the sandbox, and where it goes on, `Rest` holds
-pub record IsSafe (m : Module) (w : World) (map : Map) (entered : Registers) (Rest : State → Type 0) (s : State) (here : Here) (choice : Choice) : Type 0 where
+pub record IsSafe (m : ModuleView) (w : World) (map : Map) (entered : Registers) (Rest : MachineState → Type 0) (s : MachineState) (here : Here) (choice : Choice) : Type 0 where
   pub permitted : EachEvent m w (Permitted m w s here) s here choice
   pub keeps_to_map : EachEvent m w (StepKeepsToMap m w map s.rip s.active here) s here choice
   pub passes_heap : EachEvent m w (StepPassesHeap m w s.registers here) s here choice
   pub onward : Onward entered Rest (step m w s here choice)
 
-module _ (m : Module) (w : World) (map : Map) (At : Function → ℕ → Registers → Activation → Moment → Type 0) (setup : IsSetUp m w) (kept : AreKept m w map At) (entered : Registers) where
+module _ (m : ModuleView) (w : World) (map : Map) (At : Function → ℕ → Registers → Activation → Moment → Type 0) (setup : IsSetUp m w) (kept : AreKept m w map At) (entered : Registers) where
   abbrev pub Ends : Ending → Type 0
   Ends e = Onward entered (Doing m w map At entered) e
 
-  pub arrives : (s : State) → s.rip ≢ w.host_return → Doing m w map At entered s → Ends (arrive w s)
+  pub arrives : (s : MachineState) → s.rip ≢ w.host_return → Doing m w map At entered s → Ends (arrive w s)
   arrives s ne d = subst (λ t. Ends (if t then Returned s else Went s)) (sym (not_equal s.rip w.host_return ne)) d
 
-  arrives_home : (s : State) → s.rip ≡ w.host_return → IsKept entered s.registers → Ends (arrive w s)
+  arrives_home : (s : MachineState) → s.rip ≡ w.host_return → IsKept entered s.registers → Ends (arrive w s)
   arrives_home s e d = subst (λ t. Ends (if t then Returned s else Went s)) (sym (is_equal s.rip w.host_return e)) d
 
   pub onward_if : (t : Bool) (e : Ending) → (t ≡ false → Ends e) → Ends (if t then Trapped else e)
@@ -205,7 +205,7 @@ module _ (m : Module) (w : World) (map : Map) (At : Function → ℕ → Registe
     abbrev f : Function
     f = h.function
 
-    abbrev s : State
+    abbrev s : MachineState
     s = state_with now rip (top ∷ rest)
 
     pub here : IsPointKept m w map At f h.point

@@ -13,8 +13,8 @@ use Rattle.vw_machine.specs.declared.world.World.{World}
 use Rattle.vw_machine.specs.declared.choice.Choice.{Choice}
 use Rattle.vw_machine.specs.declared.event.Event.{Event}
 use Rattle.vw_machine.specs.Choices.{number_of, flags_in}
-use Rattle.vw_machine.specs.Module.{Module}
-use Rattle.vw_machine.specs.State.{Bytes, Activation, State, is_in_stack}
+use Rattle.vw_machine.specs.Module.{ModuleView}
+use Rattle.vw_machine.specs.State.{Bytes, Activation, MachineState, is_in_stack}
 use Rattle.vw_machine.specs.Standing.{Here, Stub, Host, Probe, IsInside, IsHostAt, IsProbeAt, NoStubAt, StandsFor}
 use Rattle.vw_machine.specs.Step.{is_saved, slot_word, host_number, host_registers, is_left, host_bytes, probe_traps, arrive}
 use Rattle.vw_machine.specs.Permitted.{Permitted}
@@ -31,8 +31,8 @@ every_if : (P : Event → Type 0) (t : Bool) (es : List Event) → AllByRecursio
 every_if P true es p = tt
 every_if P false es p = p
 
-module _ (m : Module) (w : World) (map : Map) (At : Function → ℕ → Registers → Activation → Moment → Type 0) (setup : IsSetUp m w) (kept : AreKept m w map At) (entered : Registers) where
-  abbrev Safe : State → Here → Choice → Type 0
+module _ (m : ModuleView) (w : World) (map : Map) (At : Function → ℕ → Registers → Activation → Moment → Type 0) (setup : IsSetUp m w) (kept : AreKept m w map At) (entered : Registers) where
+  abbrev Safe : MachineState → Here → Choice → Type 0
   Safe s here choice = IsSafe m w map entered (Doing m w map At entered) s here choice
 
   -- ---- what stands at a stub, and at an address of the host

@@ -1,9 +1,7 @@
 -- From the rules of a module to the code that its functions hold in every instance.
-use Rattle.std.proofs.Common.{◌≡◌, ℕ, zero, suc, ◌+◌, ◌-◌, ◌^◌, ◌≤◌, ◌<◌, ◌&&◌, ◌||◌, Bool, true, false, List, [], ◌∷◌, length, get_or, map, take, drop, Option, Some, None, slice_index, refl, sym, ◌∙◌, ap, arith, lit<}
+use Rattle.std.proofs.Common.{◌≡◌, ℕ, zero, suc, ◌+◌, ◌-◌, ◌^◌, ◌≤◌, ◌<◌, ◌&&◌, true, List, [], ◌∷◌, length, get_or, take, drop, Option, Some, None, slice_index, refl, sym, ◌∙◌, arith, lit<}
 use Rattle.std.specs.Prelude.{Contains}
-use Rattle.std.specs.List.{find, list_any}
 use Rattle.std.specs.Option.{option_or}
-use Rattle.std.proofs.lemmas.Bool.{false≢true}
 use Rattle.std.proofs.lemmas.Bool.Decides.{nat_tests}
 use Rattle.std.proofs.lemmas.List.{drop_more}
 use Rattle.vw_bits.specs.Headers.{segments_of, is_executable}
@@ -22,7 +20,9 @@ use Rattle.vw_layout.specs.Laws.{IsCode}
 use Rattle.vw_state.specs.Code.{code_at}
 use Rattle.vw_machine.specs.declared.world.World.{World}
 use Rattle.vw_machine.specs.World.{Range}
-use Rattle.vw_machine.specs.Module.{Module, module_of, bytes_from, segment_range}
+use Rattle.vw_machine.specs.Module.{ModuleView, module_of, bytes_from, segment_range}
+use Rattle.vw_machine.proofs.CodeLemmas.{IsFound, found_of}
+use Rattle.vw_machine.proofs.Lists.{any_of, and_both, Contains-map}
 use Rattle.vw_sandbox.proofs.Instances.{all_of}
 
 -- what the crates below say of files
@@ -47,45 +47,11 @@ pub is_image : (file : List ℕ) → IsModule file → IsImage (image_of file)
 unfolding image_of
 is_image file is = record { headers = (headers_hold file is).0; dynamic = (headers_hold file is).1; whole = refl }
 
-pub Contains-map : {X Y : Type 0} (f : X → Y) (xs : List X) (x : X) → Contains xs x → Contains (map f xs) (f x)
-Contains-map f [] x (k, inside, is) = absurd (omega arith)
-Contains-map f (y ∷ xs) x (zero, inside, is) = (0, omega arith, ap f is)
-Contains-map f (y ∷ xs) x (suc k, inside, is) =
-    let later = Contains-map f xs x (k, omega arith, is) in (suc later.0, omega (arith, later.1), later.2)
-
-or_any : (b : Bool) → (b || true) ≡ true
-or_any true = refl
-or_any false = refl
-
-any_of : {X : Type 0} (p : X → Bool) (xs : List X) (x : X) → Contains xs x → p x ≡ true → list_any p xs ≡ true
-any_of p [] x (k, inside, is) passes = absurd (omega arith)
-any_of p (y ∷ xs) x (zero, inside, is) passes = let here : p y ≡ true = ap p is ∙ passes in rw here refl
-any_of p (y ∷ xs) x (suc k, inside, is) passes = let later = any_of p xs x (k, omega arith, is) passes in rw later (or_any (p y))
-
--- where one passes, one is found that passes
-abbrev pub IsFound : {X : Type 0} → (X → Bool) → List X → Type 0
-IsFound {X} p xs = (y : X) × Contains xs y × (p y ≡ true) × (find p xs ≡ Some y)
-
-found_first : {X : Type 0} (p : X → Bool) (y : X) (xs : List X) (passes : Bool) → p y ≡ passes → (passes ≡ false → IsFound p xs) → IsFound p (y ∷ xs)
-found_first p y xs true is later = (y, (0, omega arith, refl), is, rw is refl)
-found_first p y xs false is later =
-    let found = later refl in (found.0, (suc found.1.0, omega (arith, found.1.1), found.1.2), found.2, rw is found.3)
-
-pub found_of : {X : Type 0} (p : X → Bool) (xs : List X) (x : X) → Contains xs x → p x ≡ true → IsFound p xs
-found_of p [] x (k, inside, is) passes = absurd (omega arith)
-found_of p (y ∷ xs) x (zero, inside, is) passes = found_first p y xs true (ap p is ∙ passes) (λ e. absurd (false≢true (sym e)))
-found_of p (y ∷ xs) x (suc k, inside, is) passes = found_first p y xs (p y) refl (λ e. found_of p xs x (k, omega arith, is) passes)
-
 among : (start size a n : ℕ) → is_among start size a n ≡ true → (start ≤ a) × (a < start + size) × (a + n ≤ start + size)
 among start size a n h = (grind (arith, nat_tests, h), grind (arith, nat_tests, h), grind (arith, nat_tests, h))
 
 among_is : (start size a n : ℕ) → start ≤ a → a < start + size → a + n ≤ start + size → is_among start size a n ≡ true
 among_is start size a n one two three = grind (arith, nat_tests)
-
-both_true : (a b : Bool) → a ≡ true → b ≡ true → a && b ≡ true
-both_true true true one two = refl
-both_true true false one two = two
-both_true false b one two = one
 
 pub IsBytes-drop : (n : ℕ) (bytes : List ℕ) → IsBytes bytes → IsBytes (drop n bytes)
 IsBytes-drop zero bytes are i = are i
@@ -99,7 +65,7 @@ IsBytes-take (suc n) (b ∷ bytes) are zero = are 0
 IsBytes-take (suc n) (b ∷ bytes) are (suc i) = IsBytes-take n bytes (λ k. are (suc k)) i
 
 -- The bytes of a function in every instance are this code, and it lies in a part of the image.
-pub record HoldsCode (m : Module) (f : Function) (code : List ℕ) : Type 0 where
+pub record HoldsCode (m : ModuleView) (f : Function) (code : List ℕ) : Type 0 where
   pub listed : Contains m.functions f
   pub sized : f.size ≡ length code
   pub some : 1 ≤ length code
@@ -110,7 +76,7 @@ pub record HoldsCode (m : Module) (f : Function) (code : List ℕ) : Type 0 wher
   pub byte : (w : World) (k : ℕ) → k < length code → m.byte w (f.entry + k) ≡ get_or code k 0
 
 -- bytes of the image are those of the code
-pub code_bytes : {m : Module} {f : Function} {code : List ℕ} (held : HoldsCode m f code) (w : World) (point len : ℕ) → point + len ≤ length code → bytes_from (m.byte w) (f.entry + point) len ≡ take len (drop point code)
+pub code_bytes : {m : ModuleView} {f : Function} {code : List ℕ} (held : HoldsCode m f code) (w : World) (point len : ℕ) → point + len ≤ length code → bytes_from (m.byte w) (f.entry + point) len ≡ take len (drop point code)
 code_bytes held w point zero inside = refl
 code_bytes {m} {f} {code} held w point (suc len) inside =
     let here : point < length code = omega arith in
@@ -167,7 +133,7 @@ module _ (laws : Laws) (file : List ℕ) (is : IsModule file) (f : Function) (li
       omega (arith, high, below)
 
   executable : in_executable (segments_of file) f.entry f.size ≡ true
-  executable = any_of (λ s. is_executable s && in_memory f.entry f.size s) (segments_of file) code.segment code.listed (both_true (is_executable code.segment) (in_memory f.entry f.size code.segment) code.is_executed in_part)
+  executable = any_of (λ s. is_executable s && in_memory f.entry f.size s) (segments_of file) code.segment code.listed (and_both (is_executable code.segment) (in_memory f.entry f.size code.segment) code.is_executed in_part)
 
   byte_of_code : (w : World) (k : ℕ) → k < length (code_at (image_of file) f.entry f.size) → (module_of file).byte w (f.entry + k) ≡ get_or (code_at (image_of file) f.entry f.size) k 0
   unfolding module_of image_of

@@ -13,7 +13,7 @@ use Rattle.vw_layout.specs.declared.functions.Function.{Function}
 use Rattle.vw_machine.specs.declared.world.World.{World}
 use Rattle.vw_machine.specs.declared.choice.Choice.{Choice}
 use Rattle.vw_machine.specs.World.{Range, IsWithin, is_within, stack_range}
-use Rattle.vw_machine.specs.Module.{Module, bytes_from}
+use Rattle.vw_machine.specs.Module.{ModuleView, bytes_from}
 use Rattle.vw_machine.specs.State.{Activation}
 use Rattle.vw_machine.specs.Step.{is_saved, loads}
 use Rattle.vw_sandbox.specs.Maps.{entries}
@@ -44,7 +44,7 @@ within_is_true a n range h = let one = h.0 in let two = h.1 in grind (arith, nat
 abbrev pub JustEntered : Function → ℕ → Registers → Activation → Moment → Type 0
 JustEntered f point entered top now = (now.registers 4 ≡ top.rsp0) × SavesRegisters entered now.registers
 
-module _ (m : Module) (w : World) (setup : IsSetUp m w) (some : (f : Function) → Contains m.functions f → 1 ≤ f.size)
+module _ (m : ModuleView) (w : World) (setup : IsSetUp m w) (some : (f : Function) → Contains m.functions f → 1 ≤ f.size)
     (returns : (f : Function) → Contains m.functions f → Spells (bytes_from (m.byte w) f.entry 1) insn.Ret) where
   module _ (f : Function) (entered : Registers) (top : Activation) (now : Moment) (running : IsRunning m w f top now) (holds : JustEntered f 0 entered top now) (choice : Choice) where
     at_top : (now.registers 4 + 0) % 2 ^ 64 ≡ top.rsp0

@@ -29,14 +29,15 @@ use Rattle.vw_layout.specs.Layout.{IsModule, declared_functions, declared_tables
 use Rattle.vw_layout.specs.Tables.{is_empty_tag, is_callable, is_pointer}
 use Rattle.vw_machine.specs.declared.world.World.{World}
 use Rattle.vw_machine.specs.World.{IsLaidOut, IsHostAddress}
-use Rattle.vw_machine.specs.Module.{Module, declared_module, module_of, view_of, segment_range}
+use Rattle.vw_machine.specs.Module.{ModuleView, declared_module, module_of, view_of, segment_range}
 use Rattle.vw_machine.specs.Standing.{IsHostAt}
 use Rattle.vw_machine.specs.Step.{slot_word}
 use Rattle.vw_machine.specs.Permitted.{is_pointer as is_address}
 use Rattle.vw_sandbox.specs.Claims.{IsProbeStub}
 use Rattle.vw_sandbox.proofs.Choices.{StandsAlone}
 use Rattle.vw_sandbox.proofs.Instances.{image_low}
-use Rattle.vw_sandbox.proofs.Modules.{Laws, holds_code, Contains-map}
+use Rattle.vw_machine.proofs.Lists.{Contains-map}
+use Rattle.vw_sandbox.proofs.Modules.{Laws, holds_code}
 use Rattle.vw_sandbox.proofs.SetUp.{IsInImage, IsCallable, IsSetUp}
 
 -- what the crates below say of words, stubs and tables
@@ -50,7 +51,7 @@ pub record Rules : Type 0 where
   pub stub : (image : Contents) (functions : List Function) (address : ℕ) (stub : Stub) → module_stub image functions address ≡ Some stub → (stub_at image address ≡ Some stub) × (is_destination functions stub.to ≡ true)
   pub pointer : (file : List ℕ) (t : TableInfo) (e : TableEntry) → IsModule file → Contains (declared_tables file) t → Contains t.entries e → e.tag ≢ 18446744073709551615 → is_pointer (image_of file) (declared_functions file) e.pointer ≡ true
   pub entries : (file : List ℕ) (t : TableInfo) (e : TableEntry) → IsModule file → Contains (declared_tables file) t → Contains t.entries e → IsNumbered (length (file_imports file)) e.pointer
-  pub alone : (m : Module) (w : World) → IsLaidOut m.image m.imports w → StandsAlone m w
+  pub alone : (m : ModuleView) (w : World) → IsLaidOut m.image m.imports w → StandsAlone m w
 
 -- ---- lists and options
 
@@ -143,7 +144,7 @@ module _ (rules : Rules) (file : List ℕ) (is : IsModule file) where
   abbrev functions : List Function
   functions = declared_functions file
 
-  abbrev m : Module
+  abbrev m : ModuleView
   m = view_of (declared_module file)
 
   code_in_image : (f : Function) → Contains functions f → IsInImage m f.entry f.size

@@ -11,7 +11,7 @@ use Rattle.vw_layout.specs.declared.tables.TableEntry.{TableEntry}
 use Rattle.vw_layout.specs.Tables.{is_empty_tag}
 use Rattle.vw_machine.specs.declared.world.World.{World}
 use Rattle.vw_machine.specs.World.{Range, IsLaidOut, IsHostAddress, IsIn, loaded_range}
-use Rattle.vw_machine.specs.Module.{Module}
+use Rattle.vw_machine.specs.Module.{ModuleView}
 use Rattle.vw_machine.specs.Standing.{IsHostAt}
 use Rattle.vw_machine.specs.Step.{slot_word}
 use Rattle.vw_machine.specs.Permitted.{is_pointer}
@@ -20,19 +20,19 @@ use Rattle.vw_sandbox.proofs.Instances.{all_of, host_elsewhere}
 use Rattle.vw_sandbox.proofs.Choices.{StandsAlone}
 
 -- n places from this one on lie in the memory of a segment
-pub record IsInImage (m : Module) (place n : ℕ) : Type 0 where
+pub record IsInImage (m : ModuleView) (place n : ℕ) : Type 0 where
   pub part : Range
   pub of_image : Contains m.image part
   pub low : part.from ≤ place
   pub high : place + n ≤ part.to
 
 -- a function or a stub begins there, and no stub of the probe
-abbrev pub IsCallable : Module → World → ℕ → Type 0
+abbrev pub IsCallable : ModuleView → World → ℕ → Type 0
 IsCallable m w to =
     (place : ℕ) × (to ≡ w.load + place) × (¬ IsProbeStub m w to)
     × (((f : Function) × Contains m.functions f × (f.entry ≡ place)) ⊎ ((stub : Stub) × (m.stub place ≡ Some stub)))
 
-pub record IsSetUp (m : Module) (w : World) : Type 0 where
+pub record IsSetUp (m : ModuleView) (w : World) : Type 0 where
   pub laid : IsLaidOut m.image m.imports w
   pub alone : StandsAlone m w
   -- functions and stubs lie in the image
@@ -72,7 +72,7 @@ function_or_none (g ∷ gs) place = by_first (g.entry == place) refl (function_o
 
 -- ---- addresses of the host
 
-module _ {m : Module} {w : World} (setup : IsSetUp m w) where
+module _ {m : ModuleView} {w : World} (setup : IsSetUp m w) where
   pub image_not_home : (place n k : ℕ) → IsInImage m place n → k < n → w.load + place + k ≢ w.host_return
   image_not_home place n k part inside =
       let low = part.low in

@@ -45,7 +45,7 @@ use Rattle.vw_machine.specs.declared.world.World.{World}
 use Rattle.vw_machine.specs.declared.choice.Choice.{Choice}
 use Rattle.vw_machine.specs.World.{Range, IsIn, AreApart, IsLaidOut, is_within, stack_range, loaded_range, instance_ranges}
 use Rattle.vw_machine.specs.Choices.{number_of}
-use Rattle.vw_machine.specs.Module.{Module, declared_module, view_of, segment_range, is_in_table}
+use Rattle.vw_machine.specs.Module.{ModuleView, declared_module, view_of, segment_range, is_in_table}
 use Rattle.vw_machine.specs.State.{Bytes, Activation}
 use Rattle.vw_machine.specs.Step.{is_in_image, image_number, loads}
 use Rattle.vw_sandbox.specs.Assertions.{Moment}
@@ -59,15 +59,15 @@ abbrev pub entries_in : (ℕ → ℕ) → ℕ → List TableEntry → List Slot
 entries_in byte a [] = []
 entries_in byte a (e ∷ es) = record { tag = e.tag; pointer = load byte (a + 8) 8 } ∷ entries_in byte (a + 16) es
 
-abbrev pub table_in : Module → World → TableInfo → FunctionTable
+abbrev pub table_in : ModuleView → World → TableInfo → FunctionTable
 table_in m w t = record { address = t.address; entries = entries_in (m.byte w) t.address t.entries }
 
-abbrev pub instance_of : Module → World → Registers → Instance
+abbrev pub instance_of : ModuleView → World → Registers → Instance
 instance_of m w entered =
     record { load = w.load; heap = w.heap; globals = w.globals; tables = map (table_in m w) m.tables; byte = m.byte w; entered = entered }
 
 -- the machine's state in an activation, with this number in the register that lives within one instruction
-abbrev pub machine_of : Module → World → Registers → Activation → Moment → ℕ → Machine
+abbrev pub machine_of : ModuleView → World → Registers → Activation → Moment → ℕ → Machine
 machine_of m w entered top now tmp = record {
   instance = instance_of m w entered;
   stack_start = w.stack_low;
@@ -129,7 +129,7 @@ got_within {A} [] k x is = absurd (let none : ◌≡◌ {A = Option A} None (Som
 got_within (y ∷ ys) zero x is = omega arith
 got_within (y ∷ ys) (suc k) x is = let later = got_within ys k x is in omega arith
 
-extents_are : (m : Module) (w : World) (ts : List TableInfo) → map (λ (t : FunctionTable). (t.address, length t.entries)) (map (table_in m w) ts) ≡ map extent_of ts
+extents_are : (m : ModuleView) (w : World) (ts : List TableInfo) → map (λ (t : FunctionTable). (t.address, length t.entries)) (map (table_in m w) ts) ≡ map extent_of ts
 extents_are m w [] = refl
 extents_are m w (t ∷ ts) =
     ap (λ n. (t.address, n) ∷ map (λ (t : FunctionTable). (t.address, length t.entries)) (map (table_in m w) ts)) (entry_count (m.byte w) t.address t.entries)
@@ -300,7 +300,7 @@ module _ (laws : SiteLaws) (file : List ℕ) (is : IsModule file) (headers : hea
   abbrev declared : Declared
   declared = declared_module file
 
-  abbrev m : Module
+  abbrev m : ModuleView
   m = view_of declared
 
   -- the address and the number of entries of each table

@@ -66,7 +66,8 @@ use Rattle.vw_machine.specs.Module.{view_of}
 use Rattle.vw_sandbox.specs.MapOf.{table_at, entry_of, callee_of, callee_read, callee_in, map_of}
 use Rattle.vw_sandbox.specs.Tables.{Tables, Bounds, Lands, IsProbeAt, IsCalleeAt, IsSpelled, Calls, EdgeLands, Follows, IsSafeAt, AreSafe, IsMapOf}
 use Rattle.vw_sandbox.proofs.Jumps.{entry_leads, each_target, each_edge, told_by, stays, function_told}
-use Rattle.vw_sandbox.proofs.Modules.{HoldsCode, code_bytes, IsBytes-drop, found_of}
+use Rattle.vw_machine.proofs.CodeLemmas.{found_of}
+use Rattle.vw_sandbox.proofs.Modules.{HoldsCode, code_bytes, IsBytes-drop}
 use Rattle.vw_sandbox.proofs.Rules.{any_passes, is_some_of, or_cases}
 use Rattle.vw_sandbox.proofs.Spellings.{begins_some, spelled_word}
 use Rattle.vw_sandbox.proofs.StubReads.{ReadsOnly, ReadsNone}

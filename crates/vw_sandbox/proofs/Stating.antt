@@ -25,7 +25,7 @@ use Rattle.vw_machine.specs.declared.world.World.{World}
 use Rattle.vw_machine.specs.declared.choice.Choice.{Choice}
 use Rattle.vw_machine.specs.World.{IsLaidOut, is_within, stack_range}
 use Rattle.vw_machine.specs.Choices.{number_of, open_of}
-use Rattle.vw_machine.specs.Module.{Module, module_of}
+use Rattle.vw_machine.specs.Module.{ModuleView, module_of}
 use Rattle.vw_machine.specs.State.{Bytes, Activation, is_in_stack, is_one_of, store}
 use Rattle.vw_machine.specs.Step.{is_in_image, image_number, loads}
 use Rattle.vw_sandbox.specs.Maps.{Map}
@@ -75,7 +75,7 @@ module_bytes file are w a = image_fits (image_of file) are w.load (slice_index w
 
 -- ---- loads and stores
 
-module _ (m : Module) (w : World) (laid : IsLaidOut m.image m.imports w) (bytes_are : (a : ℕ) → m.byte w a < 256) where
+module _ (m : ModuleView) (w : World) (laid : IsLaidOut m.image m.imports w) (bytes_are : (a : ℕ) → m.byte w a < 256) where
   globals_small : w.globals < 2 ^ 64
   globals_small =
       let low : w.globals < 2 ^ 47 = laid.instance_ends.1.0 w.globals (omega arith, omega arith) in

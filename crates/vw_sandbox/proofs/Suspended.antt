@@ -9,20 +9,20 @@ use Rattle.vw_image.specs.declared.stub.StubTo.TheVariants.{Import}
 use Rattle.vw_layout.specs.declared.functions.Function.{Function}
 use Rattle.vw_machine.specs.declared.world.World.{World}
 use Rattle.vw_machine.specs.Laws.{IsFramed}
-use Rattle.vw_machine.specs.Module.{Module}
-use Rattle.vw_machine.specs.State.{Bytes, Activation, State}
+use Rattle.vw_machine.specs.Module.{ModuleView}
+use Rattle.vw_machine.specs.State.{Bytes, Activation, MachineState}
 use Rattle.vw_machine.specs.Standing.{IsOf, IsHostAt, IsProbeAt}
 use Rattle.vw_sandbox.specs.Maps.{Map}
 use Rattle.vw_sandbox.specs.Assertions.{Moment, IsOfWords, SameFrom, SavesRegisters, IsEntered, IsRunning, IsBehind}
 
 -- the state with this moment, at an address and with these activations
-abbrev pub state_with : Moment → ℕ → List Activation → State
+abbrev pub state_with : Moment → ℕ → List Activation → MachineState
 state_with now rip active = record { registers = now.registers; rip = rip; flags = now.flags; bytes = now.bytes; active = active }
 
-abbrev pub moment_of : State → Moment
+abbrev pub moment_of : MachineState → Moment
 moment_of s = record { registers = s.registers; flags = s.flags; bytes = s.bytes }
 
-module _ (m : Module) (w : World) (map : Map) (At : Function → ℕ → Registers → Activation → Moment → Type 0) where
+module _ (m : ModuleView) (w : World) (map : Map) (At : Function → ℕ → Registers → Activation → Moment → Type 0) where
   -- the caller goes on at a point of its function, whatever the callee leaves but what it has to keep
   pub record Waits (bytes : Bytes) (callee caller : Activation) (of_callee of_caller : Registers) : Type 0 where
     pub function : Function
@@ -113,7 +113,7 @@ module _ (m : Module) (w : World) (map : Map) (At : Function → ℕ → Registe
       pub place : IsProbing rip ⊎ IsProbeAt m w rip
 
     -- one of these
-    pub data Doing (s : State) : Type 0 where
+    pub data Doing (s : MachineState) : Type 0 where
       in_function : {top : Activation} {rest : List Activation} → s.active ≡ top ∷ rest → Holds (moment_of s) s.rip top rest → Doing s
       outside : {top : Activation} {rest : List Activation} → s.active ≡ top ∷ rest → Outside (moment_of s) s.rip top rest → Doing s
       probing : {top caller : Activation} {rest : List Activation} → s.active ≡ top ∷ caller ∷ rest → Probing (moment_of s) s.rip top caller rest → Doing s

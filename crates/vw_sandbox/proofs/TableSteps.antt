@@ -64,7 +64,7 @@ use Rattle.vw_machine.specs.declared.world.World.{World}
 use Rattle.vw_machine.specs.declared.choice.Choice.{Choice}
 use Rattle.vw_machine.specs.declared.event.Event.TheVariants.{Read}
 use Rattle.vw_machine.specs.World.{Range, IsLaidOut, touches, guard_range, loaded_range, is_within}
-use Rattle.vw_machine.specs.Module.{Module, declared_module, view_of}
+use Rattle.vw_machine.specs.Module.{ModuleView, declared_module, view_of}
 use Rattle.vw_machine.specs.State.{Bytes, Activation, is_one_of, is_in_frame, mark, after_writes, store as machine_store}
 use Rattle.vw_machine.specs.Step.{is_saved, loads, accesses, does_trap}
 use Rattle.vw_machine.specs.Permitted.{is_pointer, MayDo, MayRead, MayWrite, IsReadableAt}
@@ -80,7 +80,8 @@ use Rattle.vw_sandbox.proofs.Instances.{stack_ends}
 use Rattle.vw_sandbox.proofs.EntryStates.{entry_writes, entry_stands}
 use Rattle.vw_sandbox.proofs.Sites.{SiteLaws, any_extent, instance_of, machine_of, is_site, is_placed, is_memory, has_image, has_tables, byte_is, plain_bytes, pointer_is, entry_is, contains_got}
 use Rattle.vw_sandbox.proofs.Stating.{holds_words}
-use Rattle.vw_sandbox.proofs.Stores.{at_word, whole_address, whole_stored}
+use Rattle.vw_domain.proofs.Memory.{whole_stored}
+use Rattle.vw_sandbox.proofs.Stores.{at_word, whole_address}
 
 -- ---- stores and marks
 
@@ -112,7 +113,7 @@ bools true true false true true t = refl
 bools true true false true false t = refl
 bools true true false false e t = refl
 
-module _ (m : Module) (w : World) (entered : Registers) (now : Moment) (tmp : ℕ) where
+module _ (m : ModuleView) (w : World) (entered : Registers) (now : Moment) (tmp : ℕ) where
   mark_same : (top : Activation) (a n : ℕ) → machine_of m w entered (mark w top a n) now tmp ≡ after_write (machine_of m w entered top now tmp) a n
   mark_same top a n =
       ap (λ (f : ℕ → Bool). record (machine_of m w entered top now tmp) { is_written = f }) (fun_ext (λ q. by_byte q))
@@ -211,7 +212,7 @@ module _ (domain : DomainLaws) (words_stay : WordsStay) (laws : SiteLaws) (in_fo
   abbrev declared : Declared
   declared = declared_module file
 
-  abbrev m : Module
+  abbrev m : ModuleView
   m = view_of declared
 
   -- the state of the point stands, whatever is in the register that lives within one instruction

@@ -1,7 +1,7 @@
 -- Instances and runs that there are, and what is refused in them.
-use Rattle.std.proofs.Common.{◌≡◌, ◌≢◌, ◌⊎◌, inl, ℕ, zero, suc, ◌+◌, ◌-◌, ◌*◌, ◌^◌, ◌≤◌, ◌<◌, ◌==◌, Bool, true, false, if◌then◌else◌, List, [], ◌∷◌, length, get_or, map, None, Some, refl, sym, ◌∙◌, ap, subst, arith, lit<, lit≤}
-use Rattle.std.specs.Prelude.{nat_lt, Contains, AllPairs}
-use Rattle.std.specs.List.{AllByRecursion, range_with_len, slice_get}
+use Rattle.std.proofs.Common.{◌≡◌, ◌⊎◌, inl, inr, ℕ, zero, suc, ◌+◌, ◌-◌, ◌^◌, ◌≤◌, ◌<◌, ◌==◌, Bool, true, false, if◌then◌else◌, List, [], ◌∷◌, length, map, None, Some, refl, sym, ◌∙◌, ap, subst, arith, lit<, lit≤}
+use Rattle.std.specs.Prelude.{nat_lt, Contains}
+use Rattle.std.specs.List.{AllByRecursion, slice_get}
 use Rattle.std.proofs.lemmas.Bool.Decides.{nat_tests}
 use Rattle.vw_bits.specs.Headers.{segments_of}
 use Rattle.vw_bits.specs.HeaderRules.{header_fault}
@@ -10,16 +10,17 @@ use Rattle.vw_dynamic.specs.Dynamic.{file_imports}
 use Rattle.vw_image.specs.Image.{image_of}
 use Rattle.vw_image.specs.Bounds.{AreBounded}
 use Rattle.vw_insn.specs.Words.{Registers}
+use Rattle.vw_insn.specs.declared.instruction.Insn.{Insn}
 use Rattle.vw_rows.specs.Spelling.{Spells}
 use Rattle.vw_layout.specs.declared.functions.Function.{Function}
 use Rattle.vw_layout.specs.Layout.{IsModule}
 use Rattle.vw_state.specs.Code.{NothingAt}
 use Rattle.vw_machine.specs.declared.world.World.{World}
 use Rattle.vw_machine.specs.declared.choice.Choice.{Choice}
-use Rattle.vw_machine.specs.declared.event.Event.TheVariants.{Write}
-use Rattle.vw_machine.specs.World.{Range, IsLaidOut, IsIn, AreApart, IsBelowTop, IsHostAddress, instance_ranges, loaded_range, heap_range, globals_range, IsWithin}
-use Rattle.vw_machine.specs.Module.{Module, bytes_from, module_of, segment_range}
-use Rattle.vw_machine.specs.State.{Activation, State}
+use Rattle.vw_machine.specs.declared.event.Event.TheVariants.{Write, Goto}
+use Rattle.vw_machine.specs.World.{IsLaidOut, heap_range, globals_range, IsWithin, usual_instance}
+use Rattle.vw_machine.specs.Module.{ModuleView, bytes_from, module_of, segment_range}
+use Rattle.vw_machine.specs.State.{Activation, MachineState}
 use Rattle.vw_machine.specs.Standing.{Here, Code, Stub, Host, Probe, Nowhere, StandsAt}
 use Rattle.vw_machine.specs.Step.{Returned, is_saved, step}
 use Rattle.vw_machine.specs.Events.{events, events_of}
@@ -27,106 +28,15 @@ use Rattle.vw_machine.specs.Permitted.{MayWrite, MayDo, Permitted, PermittedOf, 
 use Rattle.vw_machine.specs.Entered.{IsInitial}
 use Rattle.vw_insn.specs.Effect.{Way, Ordinary, Return, Direct, Indirect, way}
 use Rattle.vw_sandbox.specs.Runs.{Reaches, begins}
-use Rattle.vw_sandbox.specs.Claims.{IsKept, ReturnsKept, KeepsRegisters}
+use Rattle.vw_sandbox.specs.Claims.{IsKept, ReturnsKept, KeepsRegisters, IsProbeStub, InsnPassesHeap, StepPassesHeap, PassesHeap}
 use Rattle.vw_sandbox.specs.Maps.{Map, IsSandboxedBy}
+use Rattle.vw_machine.proofs.WorldLemmas.{IsLimited, laid_out}
 use Rattle.vw_sandbox.proofs.Instances.{all_of}
 use Rattle.vw_sandbox.proofs.Choices.{some_choice}
 use Rattle.vw_sandbox.proofs.Modules.{HoldsCode, code_bytes, headers_hold}
 
--- addresses of the host, sixteen bytes from one to the next
-hosts : ℕ → List ℕ
-hosts count = map (λ k. 0x600000000000 + 16 * k) (range_with_len 0 count)
-
--- an instance that is laid out well
-instance : ℕ → World
-instance imports =
-    record { load = 0x10000000000; heap = 0x200000000000; globals = 0x300000000000; stack_low = 0x400000000000; stack_high = 0x400000100000; host_return = 0x500000000000; hosts = hosts imports }
-
-apart_in_instance : (imports : ℕ) → AllPairs AreApart (instance_ranges (instance imports))
-unfolding instance
-apart_in_instance imports zero zero d less inside a one two = absurd (omega arith)
-apart_in_instance imports zero (suc zero) d less inside a one two = let x = one.1 in let y = two.0 in omega arith
-apart_in_instance imports zero (suc (suc zero)) d less inside a one two = let x = one.1 in let y = two.0 in omega arith
-apart_in_instance imports (suc zero) (suc (suc zero)) d less inside a one two = let x = one.1 in let y = two.0 in omega arith
-apart_in_instance imports (suc i) zero d less inside a one two = absurd (omega arith)
-apart_in_instance imports (suc i) (suc zero) d less inside a one two = absurd (omega arith)
-apart_in_instance imports (suc (suc i)) (suc (suc zero)) d less inside a one two = absurd (omega arith)
-apart_in_instance imports i (suc (suc (suc j))) d less inside a one two = absurd (omega arith)
-
--- a part of the image below 2^31 lies below the others and below the top
-image_below : (imports : ℕ) (image : List Range) → AllByRecursion (λ part. part.to ≤ 2 ^ 31) image → AllByRecursion (λ part. IsBelowTop (loaded_range (instance imports) part)) image
-unfolding instance
-image_below imports [] ends = tt
-image_below imports (part ∷ more) ends = let end = ends.0 in ((λ a is. let x = is.1 in omega arith), image_below imports more ends.1)
-
-image_apart : (imports : ℕ) (image : List Range) → AllByRecursion (λ part. part.to ≤ 2 ^ 31) image → AllByRecursion (λ part. AllByRecursion (AreApart (loaded_range (instance imports) part)) (instance_ranges (instance imports))) image
-unfolding instance
-image_apart imports [] ends = tt
-image_apart imports (part ∷ more) ends =
-    let end = ends.0 in
-    (((λ a one two. let x = one.1 in let y = two.0 in omega arith), ((λ a one two. let x = one.1 in let y = two.0 in omega arith), ((λ a one two. let x = one.1 in let y = two.0 in omega arith), tt))), image_apart imports more ends.1)
-
-not_loaded : (imports : ℕ) (image : List Range) (a : ℕ) → 0x500000000000 ≤ a → AllByRecursion (λ part. part.to ≤ 2 ^ 31) image → AllByRecursion (λ part. ¬ IsIn a (loaded_range (instance imports) part)) image
-unfolding instance
-not_loaded imports [] a high ends = tt
-not_loaded imports (part ∷ more) a high ends = let end = ends.0 in ((λ is. let x = is.1 in omega arith), not_loaded imports more a high ends.1)
-
-host_outside : (imports : ℕ) (image : List Range) (a : ℕ) → 0x500000000000 ≤ a → a < 2 ^ 47 → AllByRecursion (λ part. part.to ≤ 2 ^ 31) image → IsHostAddress (instance imports) image a
-unfolding instance
-host_outside imports image a high low ends =
-    (low, not_loaded imports image a high ends, ((λ is. let x = is.1 in omega arith), ((λ is. let x = is.1 in omega arith), ((λ is. let x = is.1 in omega arith), tt))))
-
-hosts_outside : (imports : ℕ) (image : List Range) (from count : ℕ) → from + count ≤ 65536 → AllByRecursion (λ part. part.to ≤ 2 ^ 31) image → AllByRecursion (IsHostAddress (instance imports) image) (map (λ k. 0x600000000000 + 16 * k) (range_with_len from count))
-hosts_outside imports image from zero few ends = tt
-hosts_outside imports image from (suc count) few ends =
-    (host_outside imports image (0x600000000000 + 16 * from) (omega arith) (omega arith) ends, hosts_outside imports image (from + 1) count (omega arith) ends)
-
-host_at : (from count k d : ℕ) → k < count → get_or (map (λ k. 0x600000000000 + 16 * k) (range_with_len from count)) k d ≡ 0x600000000000 + 16 * (from + k)
-host_at from zero k d inside = absurd (omega arith)
-host_at from (suc count) zero d inside = omega arith
-host_at from (suc count) (suc k) d inside = omega (arith, host_at (from + 1) count k d (omega arith))
-
-length-hosts : (from count : ℕ) → length (map (λ k. 0x600000000000 + 16 * k) (range_with_len from count)) ≡ count
-length-hosts from zero = refl
-length-hosts from (suc count) = ap suc (length-hosts (from + 1) count)
-
-hosts_distinct : (count : ℕ) → AllPairs ◌≢◌ (0x500000000000 ∷ hosts count)
-unfolding hosts
-hosts_distinct count i zero d less inside same = absurd (omega arith)
-hosts_distinct count zero (suc j) d less inside same =
-    let at = host_at 0 count j d (omega (arith, inside, length-hosts 0 count)) in
-    omega (arith, same, at)
-hosts_distinct count (suc i) (suc j) d less inside same =
-    let first = host_at 0 count i d (omega (arith, less, inside, length-hosts 0 count)) in
-    let second = host_at 0 count j d (omega (arith, inside, length-hosts 0 count)) in
-    omega (arith, less, same, first, second)
-
--- what the rules give of a module: its image ends at or before 2^31, and it has at most 65,536 imports
-pub record IsLimited (m : Module) : Type 0 where
-  pub ends : AllByRecursion (λ part. part.to ≤ 2 ^ 31) m.image
-  pub imports : m.imports ≤ 65536
-
-laid_out : (m : Module) → IsLimited m → IsLaidOut m.image m.imports (instance m.imports)
-unfolding instance hosts
-laid_out m limited =
-    record {
-      load_page = refl;
-      heap_page = refl;
-      stack_end = refl;
-      room_below_heap = lit≤ tt;
-      room_below_stack = lit≤ tt;
-      stack_room = lit≤ tt;
-      image_ends = image_below m.imports m.image limited.ends;
-      instance_ends = ((λ a is. let x = is.1 in omega arith), ((λ a is. let x = is.1 in omega arith), ((λ a is. let x = is.1 in omega arith), tt)));
-      image_apart = image_apart m.imports m.image limited.ends;
-      instance_apart = apart_in_instance m.imports;
-      one_host_each = length-hosts 0 m.imports;
-      hosts_outside = (host_outside m.imports m.image 0x500000000000 (omega arith) (lit< tt) limited.ends, hosts_outside m.imports m.image 0 m.imports (omega (arith, limited.imports)) limited.ends);
-      hosts_distinct = hosts_distinct m.imports;
-    }
-
 -- a state in which the host enters the function
-entered : ℕ → State
+entered : ℕ → MachineState
 entered entry =
     record {
       registers = λ q. if q == 7 then 0x200000000000 else (if q == 4 then 0x4000000fdff8 else 0);
@@ -145,8 +55,8 @@ small_byte : (first : Bool) → (if first then 0x50 else 0) < 256
 small_byte true = lit< tt
 small_byte false = lit< tt
 
-is_entered : (imports : ℕ) (f : Function) → IsInitial (instance imports) f (entered (0x10000000000 + f.entry))
-unfolding instance entered
+is_entered : (imports : ℕ) (f : Function) → IsInitial (usual_instance imports) f (entered (0x10000000000 + f.entry))
+unfolding usual_instance entered
 is_entered imports f =
     record {
       rip = refl;
@@ -159,8 +69,8 @@ is_entered imports f =
       bytes = λ a. small_byte (a == 0x4000000fdffd);
     }
 
-pub begun : (m : Module) → IsLimited m → (w : World) × IsLaidOut m.image m.imports w × ((f : Function) → Contains m.functions f → (s : State) × IsInitial w f s)
-begun m limited = (instance m.imports, laid_out m limited, (λ f listed. (entered (0x10000000000 + f.entry), is_entered m.imports f)))
+pub begun : (m : ModuleView) → IsLimited m → (w : World) × IsLaidOut m.image m.imports w × ((f : Function) → Contains m.functions f → (s : MachineState) × IsInitial w f s)
+begun m limited = (usual_instance m.imports, laid_out m limited, (λ f listed. (entered (0x10000000000 + f.entry), is_entered m.imports f)))
 
 ends_low : (len : ℕ) (segments : List Segment) → AreBounded len segments → AllByRecursion (λ part. part.to ≤ 2 ^ 31) (map segment_range segments)
 ends_low len [] bounded = tt
@@ -174,12 +84,12 @@ limited bounded few file is = record { ends = ends_low (length file) (segments_o
 -- ---- what is refused
 
 -- where nothing stands, no event is permitted
-nowhere_refused : (m : Module) (w : World) (s : State) (active : List Activation) (choice : Choice) → AllByRecursion (PermittedOf m w active Nowhere) (events_of m w s active Nowhere choice) → ⊥
+nowhere_refused : (m : ModuleView) (w : World) (s : MachineState) (active : List Activation) (choice : Choice) → AllByRecursion (PermittedOf m w active Nowhere) (events_of m w s active Nowhere choice) → ⊥
 nowhere_refused m w s [] choice permitted = permitted.0
 nowhere_refused m w s (top ∷ rest) choice permitted = permitted.0
 
 -- nothing stands at the entry of a function where nothing decodes
-nowhere_at_entry : (m : Module) (w : World) (f : Function) (code : List ℕ) → HoldsCode m f code → ((g : Function) → Contains m.functions g → g.entry ≡ f.entry → g ≡ f) → NothingAt code 0
+nowhere_at_entry : (m : ModuleView) (w : World) (f : Function) (code : List ℕ) → HoldsCode m f code → ((g : Function) → Contains m.functions g → g.entry ≡ f.entry → g ≡ f) → NothingAt code 0
     → (top : Activation) (rest : List Activation) (rip : ℕ) → rip ≡ w.load + f.entry → top.entry ≡ rip → StandsAt m w rip (top ∷ rest) Nowhere
 nowhere_at_entry m w f code held one_function nothing top rest rip at of_top =
     let sized = held.sized in
@@ -197,7 +107,7 @@ nowhere_at_entry m w f code held one_function nothing top rest rip at of_top =
           nothing i len (record { inside = inside; spelled = subst (λ (bytes : List ℕ). Spells bytes i) (ap (λ (a : ℕ). bytes_from (m.byte w) a len) offset ∙ code_bytes held w 0 len inside) spelled.spelled })),
     )
 
-pub not_sandboxed : (m : Module) (map : Map) (f : Function) (code : List ℕ) → IsLimited m → HoldsCode m f code → ((g : Function) → Contains m.functions g → g.entry ≡ f.entry → g ≡ f) → NothingAt code 0 → IsSandboxedBy m map → ⊥
+pub not_sandboxed : (m : ModuleView) (map : Map) (f : Function) (code : List ℕ) → IsLimited m → HoldsCode m f code → ((g : Function) → Contains m.functions g → g.entry ≡ f.entry → g ≡ f) → NothingAt code 0 → IsSandboxedBy m map → ⊥
 not_sandboxed m map f code limited held one_function nothing sandboxed =
     let some = begun m limited in
     let w = some.0 in
@@ -239,20 +149,20 @@ one_by_entry functions ascend f g in_f in_g same = by_order (nat_lt j.0 k.0) ref
         some_is (sym k.1 ∙ (ap (λ (n : ℕ). slice_get functions n) at ∙ j.1))
 
 -- a write that is permitted
-write_permitted : (m : Module) (w : World) (top : Activation) (way : Way) (a n : ℕ) → MayDo m w top way (Write a n) → MayWrite m w top a n
+write_permitted : (m : ModuleView) (w : World) (top : Activation) (way : Way) (a n : ℕ) → MayDo m w top way (Write a n) → MayWrite m w top a n
 write_permitted m w top Ordinary a n may = may
 write_permitted m w top Return a n may = may
 write_permitted m w top Direct a n may = may
 write_permitted m w top Indirect a n may = may
 
-write_here : (m : Module) (w : World) (top : Activation) (here : Here) (a n : ℕ) → PermittedFrom m w top here (Write a n) → MayWrite m w top a n
+write_here : (m : ModuleView) (w : World) (top : Activation) (here : Here) (a n : ℕ) → PermittedFrom m w top here (Write a n) → MayWrite m w top a n
 write_here m w top (Code i len) a n may = write_permitted m w top (way i) a n may
 write_here m w top (Stub slot) a n may = may
 write_here m w top Host a n may = may
 write_here m w top Probe a n may = may
 write_here m w top Nowhere a n may = absurd may
 
-pub writes_in : (m : Module) (map : Map) (w : World) (f : Function) (first s : State) (here : Here) (choice : Choice) (top : Activation) (rest : List Activation) (a n : ℕ)
+pub writes_in : (m : ModuleView) (map : Map) (w : World) (f : Function) (first s : MachineState) (here : Here) (choice : Choice) (top : Activation) (rest : List Activation) (a n : ℕ)
     → IsSandboxedBy m map → IsLaidOut m.image m.imports w → Contains m.functions f → IsInitial w f first → Reaches m w first s → StandsAt m w s.rip s.active here → s.active ≡ top ∷ rest
     → Contains (events m w s here choice) (Write a n)
     → IsWithin a n (heap_range w) ⊎ IsWithin a n (globals_range w) ⊎ ((w.stack_low - 8192 ≤ a) × (a + n ≤ top.rsp0))
@@ -262,7 +172,7 @@ writes_in m map w f first s here choice top rest a n sandboxed laid listed initi
     write_here m w top here a n (subst (λ (all : List Activation). PermittedOf m w all here (Write a n)) active may)
 
 -- the registers after a return, where they are kept
-pub returned_kept : (m : Module) (w : World) (entered : Registers) (s after : State) (here : Here) (choice : Choice) → StandsAt m w s.rip s.active here → step m w s here choice ≡ Returned after → KeepsRegisters m w entered s → IsKept entered after.registers
+pub returned_kept : (m : ModuleView) (w : World) (entered : Registers) (s after : MachineState) (here : Here) (choice : Choice) → StandsAt m w s.rip s.active here → step m w s here choice ≡ Returned after → KeepsRegisters m w entered s → IsKept entered after.registers
 returned_kept m w entered s after here choice stands is keeps = subst (ReturnsKept entered) is (keeps here stands choice)
 
 -- rbx, rbp and r12 to r15 are the callee-saved registers
@@ -274,3 +184,15 @@ saved_is r (suc (suc (suc zero)), inside, is) = ap is_saved (sym is)
 saved_is r (suc (suc (suc (suc zero))), inside, is) = ap is_saved (sym is)
 saved_is r (suc (suc (suc (suc (suc zero)))), inside, is) = ap is_saved (sym is)
 saved_is r (suc (suc (suc (suc (suc (suc k))))), inside, is) = absurd (omega arith)
+
+-- what a call passes in rdi, where it does as it should
+pub passed_heap : (m : ModuleView) (w : World) (s : MachineState) (i : Insn) (len : ℕ) (choice : Choice) (to : ℕ) → StandsAt m w s.rip s.active (Code i len) → (way i ≡ Direct) ⊎ (way i ≡ Indirect)
+    → Contains (events m w s (Code i len) choice) (Goto to) → PassesHeap m w s → (s.registers 7 ≡ w.heap) ⊎ IsProbeStub m w to
+passed_heap m w s i len choice to stands calls among passes = by_way calls
+  where
+    passed : InsnPassesHeap m w s.registers (way i) (Goto to)
+    passed = all_of (StepPassesHeap m w s.registers (Code i len)) (events m w s (Code i len) choice) (passes (Code i len) stands choice) (Goto to) among
+
+    by_way : (way i ≡ Direct) ⊎ (way i ≡ Indirect) → (s.registers 7 ≡ w.heap) ⊎ IsProbeStub m w to
+    by_way (inl direct) = subst (λ (k : Way). InsnPassesHeap m w s.registers k (Goto to)) direct passed
+    by_way (inr indirect) = subst (λ (k : Way). InsnPassesHeap m w s.registers k (Goto to)) indirect passed

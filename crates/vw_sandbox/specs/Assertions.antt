@@ -15,8 +15,8 @@ use Rattle.vw_machine.specs.declared.world.World.{World}
 use Rattle.vw_machine.specs.declared.choice.Choice.{Choice}
 use Rattle.vw_machine.specs.declared.event.Event.TheVariants.{Read}
 use Rattle.vw_machine.specs.Laws.{IsFramed}
-use Rattle.vw_machine.specs.Module.{Module, bytes_from}
-use Rattle.vw_machine.specs.State.{Bytes, Activation, State, store, after_writes}
+use Rattle.vw_machine.specs.Module.{ModuleView, bytes_from}
+use Rattle.vw_machine.specs.State.{Bytes, Activation, MachineState, store, after_writes}
 use Rattle.vw_machine.specs.Standing.{IsOf}
 use Rattle.vw_machine.specs.Step.{is_saved, after_insn, accesses, does_trap}
 use Rattle.vw_machine.specs.Permitted.{MayDo, MayWrite, IsCallee}
@@ -43,7 +43,7 @@ SameFrom a old new = (q : ℕ) → a ≤ q → new q ≡ old q
 abbrev pub SavesRegisters : Registers → Registers → Type 0
 SavesRegisters old new = (r : ℕ) → is_saved r ≡ true → new r ≡ old r
 
-module _ (m : Module) (w : World) where
+module _ (m : ModuleView) (w : World) where
   -- The activation was just entered: rsp is at its return address, with room above, nothing of its frame is written, and
   -- rdi holds the heap's base.
   pub record IsEntered (top : Activation) (now : Moment) : Type 0 where
@@ -64,7 +64,7 @@ module _ (m : Module) (w : World) where
     pub words : IsOfWords now
 
   -- the state at an address, in an activation
-  abbrev pub state_at : Activation → Moment → ℕ → State
+  abbrev pub state_at : Activation → Moment → ℕ → MachineState
   state_at top now rip = record { registers = now.registers; rip = rip; flags = now.flags; bytes = now.bytes; active = top ∷ [] }
 
   -- what an instruction of this length at an address does

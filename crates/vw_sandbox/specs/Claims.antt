@@ -9,8 +9,8 @@ use Rattle.vw_machine.specs.declared.world.World.{World}
 use Rattle.vw_machine.specs.declared.choice.Choice.{Choice}
 use Rattle.vw_machine.specs.declared.event.Event.{Event}
 use Rattle.vw_machine.specs.declared.event.Event.TheVariants.{Read, Write, Goto}
-use Rattle.vw_machine.specs.Module.{Module}
-use Rattle.vw_machine.specs.State.{State}
+use Rattle.vw_machine.specs.Module.{ModuleView}
+use Rattle.vw_machine.specs.State.{MachineState}
 use Rattle.vw_machine.specs.Standing.{Here, Code, Stub, Host, Probe, Nowhere, StandsAt}
 use Rattle.vw_machine.specs.Step.{is_saved, Ending, Went, Returned, Trapped, Stuck, step}
 use Rattle.vw_machine.specs.Events.{events}
@@ -29,7 +29,7 @@ ReturnsKept entered (Returned s) = IsKept entered s.registers
 ReturnsKept entered Trapped = Unit {0}
 ReturnsKept entered Stuck = ⊥
 
-module _ (m : Module) (w : World) where
+module _ (m : ModuleView) (w : World) where
   -- a stub of the import that probes the stack stands at the address
   pub record IsProbeStub (to : ℕ) : Type 0 where
     pub place : ℕ
@@ -61,25 +61,25 @@ module _ (m : Module) (w : World) where
   StepPassesHeap registers Nowhere event = ⊥
 
   -- this holds of each event of a step
-  abbrev pub EachEvent : (Event → Type 0) → State → Here → Choice → Type 0
+  abbrev pub EachEvent : (Event → Type 0) → MachineState → Here → Choice → Type 0
   EachEvent Holds s here choice = AllByRecursion Holds (events m w s here choice)
 
   -- this holds of each step from a state, of whatever stands at rip, under any choice
-  abbrev pub EachStep : (Here → Choice → Type 0) → State → Type 0
+  abbrev pub EachStep : (Here → Choice → Type 0) → MachineState → Type 0
   EachStep Holds s = (here : Here) → StandsAt m w s.rip s.active here → (choice : Choice) → Holds here choice
 
   -- something is known to stand at rip, or nothing is: there is a step, or it is known that there is none
-  abbrev pub HasStep : State → Type 0
+  abbrev pub HasStep : MachineState → Type 0
   HasStep s = (here : Here) × StandsAt m w s.rip s.active here
 
   -- each event of each step is permitted
-  abbrev pub IsPermitted : State → Type 0
+  abbrev pub IsPermitted : MachineState → Type 0
   IsPermitted s = EachStep (λ here choice. EachEvent (Permitted m w s here) s here choice) s
 
   -- each call is made with the heap's base in rdi, but for calls of the function that probes the stack
-  abbrev pub PassesHeap : State → Type 0
+  abbrev pub PassesHeap : MachineState → Type 0
   PassesHeap s = EachStep (λ here choice. EachEvent (StepPassesHeap s.registers here) s here choice) s
 
   -- each step that returns to the host leaves rsp and the callee-saved registers as a function should
-  abbrev pub KeepsRegisters : Registers → State → Type 0
+  abbrev pub KeepsRegisters : Registers → MachineState → Type 0
   KeepsRegisters entered s = EachStep (λ here choice. ReturnsKept entered (step m w s here choice)) s

@@ -7,8 +7,8 @@ use Rattle.vw_layout.specs.declared.tables.TableEntry.{TableEntry}
 use Rattle.vw_machine.specs.declared.world.World.{World}
 use Rattle.vw_machine.specs.declared.event.Event.{Event}
 use Rattle.vw_machine.specs.declared.event.Event.TheVariants.{Read, Write, Goto}
-use Rattle.vw_machine.specs.Module.{Module}
-use Rattle.vw_machine.specs.State.{Activation, State}
+use Rattle.vw_machine.specs.Module.{ModuleView}
+use Rattle.vw_machine.specs.State.{Activation, MachineState}
 use Rattle.vw_machine.specs.Standing.{Here, Code, Stub, Host, Probe, Nowhere, IsOf}
 use Rattle.vw_machine.specs.Permitted.{is_pointer}
 use Rattle.vw_sandbox.specs.Runs.{OfRuns}
@@ -21,7 +21,7 @@ pub record Map : Type 0 where
   -- for a call there through a register or memory, the number of the table and the tag that they give its operand
   pub callee : ℕ → ℕ → Option (ℕ × ℕ)
 
-module _ (m : Module) (w : World) (map : Map) where
+module _ (m : ModuleView) (w : World) (map : Map) where
   -- the address is that of a point of the activation's function that has a state
   pub record IsPointAt (top : Activation) (to : ℕ) : Type 0 where
     pub function : Function
@@ -79,7 +79,7 @@ module _ (m : Module) (w : World) (map : Map) where
   StepKeepsToMap rip (top ∷ rest) Nowhere event = ⊥
 
   -- each event of each step keeps to the tables
-  abbrev pub KeepsToMap : State → Type 0
+  abbrev pub KeepsToMap : MachineState → Type 0
   KeepsToMap s = EachStep m w (λ here choice. EachEvent m w (StepKeepsToMap s.rip s.active here) s here choice) s
 
 -- A module stays in its sandbox, and keeps to the tables of which the map tells. For every load address and instance, every
@@ -88,7 +88,7 @@ module _ (m : Module) (w : World) (map : Map) where
 -- function that probes the stack is made with the heap's base in rdi; and a run that returns does so with rsp 8 above that
 -- at its entry and the callee-saved registers as they were. At each state of a run something is known to stand at rip, or
 -- that nothing does, so that each of these tells of some step.
-pub record IsSandboxedBy (m : Module) (map : Map) : Type 0 where
+pub record IsSandboxedBy (m : ModuleView) (map : Map) : Type 0 where
   pub steps : OfRuns m (λ w entered s. HasStep m w s)
   pub permitted : OfRuns m (λ w entered s. IsPermitted m w s)
   pub keeps_to_map : OfRuns m (λ w entered s. KeepsToMap m w map s)

@@ -16,7 +16,7 @@ use Rattle.vw_layout.specs.declared.functions.Function.{Function}
 use Rattle.vw_machine.specs.declared.world.World.{World}
 use Rattle.vw_machine.specs.declared.choice.Choice.{Choice}
 use Rattle.vw_machine.specs.declared.event.Event.TheVariants.{Read}
-use Rattle.vw_machine.specs.Module.{Module, bytes_from}
+use Rattle.vw_machine.specs.Module.{ModuleView, bytes_from}
 use Rattle.vw_machine.specs.State.{Activation, store, after_writes}
 use Rattle.vw_machine.specs.Standing.{IsOf}
 use Rattle.vw_machine.specs.Step.{loads, accesses, does_trap}
@@ -28,7 +28,7 @@ use Rattle.vw_sandbox.specs.Assertions.{Moment, IsEntered, IsRunning, GoesBy}
 abbrev pub moment_in : Environment → Moment
 moment_in e = record { registers = e.registers; flags = e.flags; bytes = e.bytes }
 
-module _ (m : Module) (w : World) (map : Map) (At : Function → ℕ → Registers → Activation → Moment → Type 0) where
+module _ (m : ModuleView) (w : World) (map : Map) (At : Function → ℕ → Registers → Activation → Moment → Type 0) where
   -- Where a run of the statements of the instruction at a point came to this environment, it accessed only what it may,
   -- and goes on to a point at which what is asserted holds, or it traps, returns, or calls as it may.
   pub record IsRunKept (f : Function) (point : ℕ) (i : Insn) (len : ℕ) (entered : Registers) (top : Activation) (now : Moment) (choice : Choice) (e : Environment) : Type 0 where

@@ -31,7 +31,7 @@ use Rattle.vw_layout.specs.declared.layout.Module.{Module as Declared}
 use Rattle.vw_state.specs.Context.{extent_of}
 use Rattle.vw_state.specs.Sites.{site_word, site_of}
 use Rattle.vw_machine.specs.declared.world.World.{World}
-use Rattle.vw_machine.specs.Module.{Module, bytes_from, view_of}
+use Rattle.vw_machine.specs.Module.{ModuleView, bytes_from, view_of}
 use Rattle.vw_sandbox.specs.Maps.{Map}
 
 -- the state of each point of each function, by the function's entry and the point's offset from there
@@ -43,7 +43,7 @@ abbrev pub Bounds : Type 0
 Bounds = Function → List ℕ
 
 module _ (declared : Declared) (bounds : Bounds) (tables : Tables) where
-  abbrev pub view : Module
+  abbrev pub view : ModuleView
   view = view_of declared
 
   -- where the next instruction of the function is at a point

@@ -5,7 +5,7 @@ ghost use Rattle.std.specs.Prelude.{◌≡◌, ◌≢◌, ◌⊎◌, ◌↔◌, 
 ghost use Rattle.vw_bits.specs.Words.{sign_extended};
 ghost use Rattle.vw_image.specs.Image.{image_of};
 ghost use Rattle.vw_image.specs.Words.{word_at};
-ghost use Rattle.vw_insn.specs.Effect.{Ordinary, Indirect};
+ghost use Rattle.vw_insn.specs.Effect.{Ordinary, Direct, Indirect, way};
 ghost use Rattle.vw_insn.specs.Words.{Registers};
 ghost use Rattle.vw_layout.specs.Layout.{IsModule, declared_functions};
 ghost use Rattle.vw_layout.specs.declared.functions.Function.{Function};
@@ -19,15 +19,15 @@ ghost use Rattle.vw_machine.specs.declared.world.World.{World};
 ghost use Rattle.vw_machine.specs.declared.choice.Choice.{Choice};
 ghost use Rattle.vw_machine.specs.declared.event.Event.TheVariants.{Write, Goto};
 ghost use Rattle.vw_machine.specs.World.{IsLaidOut, IsWithin, heap_range, globals_range};
-ghost use Rattle.vw_machine.specs.Module.{Module, bytes_from, module_of};
-ghost use Rattle.vw_machine.specs.State.{Activation, State};
-ghost use Rattle.vw_machine.specs.Standing.{Here, IsOf, StandsAt};
+ghost use Rattle.vw_machine.specs.Module.{ModuleView, bytes_from, module_of};
+ghost use Rattle.vw_machine.specs.State.{Activation, MachineState};
+ghost use Rattle.vw_machine.specs.Standing.{Here, Code, IsOf, StandsAt};
 ghost use Rattle.vw_machine.specs.Step.{Went, Returned, step};
 ghost use Rattle.vw_machine.specs.Events.{events};
 ghost use Rattle.vw_machine.specs.Permitted.{is_pointer};
 ghost use Rattle.vw_machine.specs.Entered.{IsInitial};
 ghost use Rattle.vw_sandbox.specs.Runs.{Reaches, RunsTo};
-ghost use Rattle.vw_sandbox.specs.Claims.{KeepsRegisters};
+ghost use Rattle.vw_sandbox.specs.Claims.{IsProbeStub, PassesHeap, KeepsRegisters};
 ghost use Rattle.vw_sandbox.specs.Sandboxed.{StaysSandboxed};
 ghost use Rattle.vw_sandbox.specs.Maps.{Map, InsnKeepsToMap, IsSandboxedBy, entries};
 ghost use Rattle.vw_sandbox.specs.Assertions.{Moment, AreKept};
@@ -52,7 +52,7 @@ use vw_stmt::words_stay;
 pub fn runs_begin()
     ensures { (file : List ℕ) → IsModule file
         → (w : World) × IsLaidOut (module_of file).image (module_of file).imports w
-        × ((f : Function) → Contains (module_of file).functions f → (s : State) × IsInitial w f s) }
+        × ((f : Function) → Contains (module_of file).functions f → (s : MachineState) × IsInitial w f s) }
 {
     segments_are_bounded();
     imports_are_few();
@@ -61,26 +61,26 @@ pub fn runs_begin()
 /// A claim about states of the machine.
 pub trait Claim {
     /// The claim is met by a state.
-    ghost is_met: { State → Type 0 };
+    ghost is_met: { MachineState → Type 0 };
 }
 
 /// A claim that the first state of a run meets, and that each step keeps, is met by every state of the run.
 pub fn kept_claims_are_met<C: Claim>()
-    ensures { (m : Module) (w : World) (first : State) → C.is_met first
-        → ((s next : State) (here : Here) (choice : Choice) → C.is_met s
+    ensures { (m : ModuleView) (w : World) (first : MachineState) → C.is_met first
+        → ((s next : MachineState) (here : Here) (choice : Choice) → C.is_met s
         → StandsAt m w s.rip s.active here → step m w s here choice ≡ Went next → C.is_met next)
-        → (s : State) → Reaches m w first s → C.is_met s }
+        → (s : MachineState) → Reaches m w first s → C.is_met s }
 {}
 
 /// A run is in a state exactly where it is there after some list of choices, one for each step.
 pub fn reaches_by_choices()
-    ensures { (m : Module) (w : World) (first s : State)
+    ensures { (m : ModuleView) (w : World) (first s : MachineState)
         → (Reaches m w first s ↔ ((choices : List Choice) × RunsTo m w choices first s)) }
 {}
 
 /// A module is sandboxed exactly where under every list of choices, one for each step, every run stays in the sandbox.
 pub fn sandboxed_by_choices()
-    ensures { (m : Module) (map : Map) → (IsSandboxedBy m map ↔ StaysSandboxed m map) }
+    ensures { (m : ModuleView) (map : Map) → (IsSandboxedBy m map ↔ StaysSandboxed m map) }
 {
     one_thing_stands();
 }
@@ -88,7 +88,7 @@ pub fn sandboxed_by_choices()
 /// A transfer keeps to no tables whose points are all elsewhere: so not to tables that give the function no
 /// point, nor to an address between two points.
 pub fn transfers_keep_to_points()
-    ensures { (m : Module) (w : World) (map : Map) (top : Activation) (rip to : ℕ)
+    ensures { (m : ModuleView) (w : World) (map : Map) (top : Activation) (rip to : ℕ)
         → ((f : Function) (point : ℕ) → IsOf m w top f → map.is_point f.entry point ≡ true
         → to ≢ w.load + f.entry + point)
         → InsnKeepsToMap m w map top rip Ordinary (Goto to) → ⊥ }
@@ -97,7 +97,7 @@ pub fn transfers_keep_to_points()
 /// A call through a register or memory keeps to no tables where its target is the pointer of no entry of the table and
 /// with the tag that they give its operand: so not to tables that give it another table or tag, or none.
 pub fn calls_keep_to_entries()
-    ensures { (m : Module) (w : World) (map : Map) (top : Activation) (rip to : ℕ)
+    ensures { (m : ModuleView) (w : World) (map : Map) (top : Activation) (rip to : ℕ)
         → ((f : Function) (point number : ℕ) (t : TableInfo) (e : TableEntry) → IsOf m w top f
         → rip ≡ w.load + f.entry + point → map.callee f.entry point ≡ Some (number, e.tag)
         → slice_get m.tables number ≡ Some t → Contains t.entries e
@@ -125,22 +125,33 @@ pub fn jump_entries_are_distances()
 /// A step that returns to the host with rsp elsewhere than 8 above that at the entry, or with another rbx, rbp or r12 to
 /// r15, is not as a function should return.
 pub fn wrong_returns_are_refused()
-    ensures rsp { (m : Module) (w : World) (entered : Registers) (s after : State)
+    ensures rsp { (m : ModuleView) (w : World) (entered : Registers) (s after : MachineState)
         (here : Here) (choice : Choice)
         → StandsAt m w s.rip s.active here → step m w s here choice ≡ Returned after
         → after.registers 4 ≢ entered 4 + 8 → KeepsRegisters m w entered s → ⊥ }
-    ensures saved { (m : Module) (w : World) (entered : Registers) (s after : State)
+    ensures saved { (m : ModuleView) (w : World) (entered : Registers) (s after : MachineState)
         (here : Here) (choice : Choice)
         → StandsAt m w s.rip s.active here → step m w s here choice ≡ Returned after
         → (r : ℕ) → Contains (3 ∷ 5 ∷ 12 ∷ 13 ∷ 14 ∷ 15 ∷ []) r
         → after.registers r ≢ entered r → KeepsRegisters m w entered s → ⊥ }
 {}
 
+/// A step that calls an address where no stub of the import that probes the stack stands, with rdi elsewhere than at the
+/// heap's base, is not as a call should be.
+pub fn wrong_heaps_are_refused()
+    ensures { (m : ModuleView) (w : World) (s : MachineState) (i : Insn) (len : ℕ) (choice : Choice) (to : ℕ)
+        → StandsAt m w s.rip s.active (Code i len)
+        → (way i ≡ Direct) ⊎ (way i ≡ Indirect)
+        → Contains (events m w s (Code i len) choice) (Goto to)
+        → s.registers 7 ≢ w.heap → (IsProbeStub m w to → ⊥)
+        → PassesHeap m w s → ⊥ }
+{}
+
 /// What a run of a sandboxed module writes lies in the heap's reservation, in the globals, or from 8,192 bytes below the
 /// stack up to where the return address of the activation lies.
 pub fn writes_stay_in_bounds()
-    ensures { (m : Module) (map : Map) (w : World) (f : Function)
-        (first s : State) (here : Here) (choice : Choice) (top : Activation) (rest : List Activation) (a n : ℕ)
+    ensures { (m : ModuleView) (map : Map) (w : World) (f : Function)
+        (first s : MachineState) (here : Here) (choice : Choice) (top : Activation) (rest : List Activation) (a n : ℕ)
         → IsSandboxedBy m map → IsLaidOut m.image m.imports w → Contains m.functions f
         → IsInitial w f first → Reaches m w first s → StandsAt m w s.rip s.active here → s.active ≡ top ∷ rest
         → Contains (events m w s here choice) (Write a n)

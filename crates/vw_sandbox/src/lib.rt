@@ -11,7 +11,7 @@ pub use laws::{
     jump_entries_are_distances, kept_claims_are_met, reaches_by_choices,
     returning_code_is_sandboxed, runs_begin, sandboxed_by_choices, stated_code_is_sandboxed,
     transfers_keep_to_points, unspelled_code_is_not_sandboxed, writes_stay_in_bounds,
-    wrong_returns_are_refused,
+    wrong_heaps_are_refused, wrong_returns_are_refused,
 };
 pub use state_laws::safe_tables_are_sandboxed;
 pub use table_laws::safe_states_are_sandboxed;

@@ -1,7 +1,6 @@
 //! The theorem on safe tables of abstract states, the contract of a function that does nothing.
 
 ghost use Rattle.std.specs.Prelude.{ℕ, List};
-ghost use Rattle.vw_domain.specs.ValueLaws.{ValueLaws};
 ghost use Rattle.vw_layout.specs.Layout.{IsModule};
 ghost use Rattle.vw_machine.specs.Module.{declared_module, module_of};
 ghost use Rattle.vw_rows.specs.Numbers.{IsBytes};
@@ -10,8 +9,8 @@ ghost use Rattle.vw_sandbox.specs.Tables.{Bounds, Tables, AreSafe, IsMapOf};
 
 use vw_decode::read_is_spelling;
 use vw_domain::{
-    branches_are_sound, calls_are_sound, instruction_ends_are_sound, statement_lists_are_sound,
-    statements_are_sound,
+    branches_are_sound, calls_are_sound, instruction_ends_are_sound, laws_of_values,
+    statement_lists_are_sound, statements_are_sound,
 };
 use vw_image::{
     code_is_settled, file_bytes_are_memory, segments_are_bounded, words_are_numbered, words_spell,
@@ -24,29 +23,6 @@ use vw_lift::{effect_is_a_run, lists_are_in_form};
 use vw_machine::one_thing_stands;
 use vw_state::code_has_its_size;
 use vw_stmt::words_stay;
-use vw_values::{
-    ands_are_sound, below_is_greatest, below_is_sound, differences_are_sound, equal_is_sound,
-    joins_are_least, joins_rise, low_bits_are_sound, multiples_are_sound, sums_are_sound,
-    tag_tests_are_sound, values_stand,
-};
-
-// The laws of values on which the order of states rests.
-fn laws_of_values()
-    ensures { ValueLaws }
-{
-    joins_are_least();
-    joins_rise();
-    values_stand();
-    tag_tests_are_sound();
-    sums_are_sound();
-    differences_are_sound();
-    low_bits_are_sound();
-    ands_are_sound();
-    multiples_are_sound();
-    below_is_sound();
-    equal_is_sound();
-    below_is_greatest();
-}
 
 /// A module with safe tables of abstract states, for any bounds of values, stays in its sandbox and keeps to the
 /// tables: the tables may be the least ones or others.

@@ -2,7 +2,7 @@
 
 ghost use Rattle.vw_insn.specs.Listed.{IsListed};
 
-use crate::line::{Line, Outcome, State, Touched};
+use crate::line::{Line, Outcome, Snapshot, Touched};
 use crate::stepping::step_difference;
 use std::alloc::Global;
 use vw_decode::decode;
@@ -94,7 +94,7 @@ fn goes_to(found: Transfer, to: Option<u64>) -> bool {
 
 fn difference_after(
     found: &After,
-    state: &State,
+    state: &Snapshot,
     to: Option<u64>,
     line: &Line,
 ) -> Option<&'static str> {
@@ -117,7 +117,7 @@ fn loaded(read: Option<Touched>) -> u64 {
     halves(read)[0]
 }
 
-fn effect_of(insn: &Insn, next: u64, line: &Line, state: &State) -> After
+fn effect_of(insn: &Insn, next: u64, line: &Line, state: &Snapshot) -> After
     requires { IsListed insn.now }
 {
     let choice = Open {

@@ -6,7 +6,7 @@ use vw_effect::{Access, Flags};
 
 /// Registers and flags.
 #[derive(Clone, Copy)]
-pub struct State {
+pub struct Snapshot {
     pub flags: Flags,
     pub registers: [u64; 16],
 }
@@ -21,9 +21,9 @@ pub struct Touched {
 /// How the instruction ended.
 #[derive(Clone, Copy)]
 pub enum Outcome {
-    Next(State),
+    Next(Snapshot),
     /// It went to this address.
-    Went(State, u64),
+    Went(Snapshot, u64),
     Trap,
 }
 
@@ -31,7 +31,7 @@ pub enum Outcome {
 #[derive(Drop)]
 pub struct Line {
     pub code: Vec<u8>,
-    pub before: State,
+    pub before: Snapshot,
     pub read: Option<Touched>,
     pub write: Option<Touched>,
     pub outcome: Outcome,
@@ -51,8 +51,8 @@ fn touched_at(alloc: Global, text: &str) -> Result<Option<Touched>, AllocError> 
     }))
 }
 
-fn state_of(bits: &str, words: &[&str]) -> Option<State> {
-    Some(State {
+fn state_of(bits: &str, words: &[&str]) -> Option<Snapshot> {
+    Some(Snapshot {
         flags: flags(bits)?,
         registers: registers(words)?,
     })

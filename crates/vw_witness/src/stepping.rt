@@ -1,6 +1,6 @@
 //! What a step of the machine makes of an instruction.
 
-use crate::line::{Line, State};
+use crate::line::{Line, Snapshot};
 use std::alloc::{AllocError, Global};
 use std::collections::BTreeMap;
 use vw_bits::{List, OutOfMemory};
@@ -66,7 +66,7 @@ fn bits_of(flags: Flags) -> u8 {
 }
 
 // The machine before the line's instruction, which stands where its function begins.
-fn machine_before(alloc: Global, world: &World, before: &State) -> Result<Machine, AllocError> {
+fn machine_before(alloc: Global, world: &World, before: &Snapshot) -> Result<Machine, AllocError> {
     let entry = world.load.wrapping_add(CODE as u64);
     let mut active = Vec::new(alloc);
     active.push(Frame {
@@ -84,7 +84,7 @@ fn machine_before(alloc: Global, world: &World, before: &State) -> Result<Machin
     })
 }
 
-fn difference_between(machine: &Machine, state: &State, next: u64) -> Option<&'static str> {
+fn difference_between(machine: &Machine, state: &Snapshot, next: u64) -> Option<&'static str> {
     if machine.registers != state.registers {
         return Some("registers after a step");
     }
@@ -103,7 +103,7 @@ fn difference_between(machine: &Machine, state: &State, next: u64) -> Option<&'s
 pub fn step_difference(
     alloc: Global,
     line: &Line,
-    state: &State,
+    state: &Snapshot,
     results: [u64; 2],
 ) -> Result<Option<&'static str>, OutOfMemory> {
     let file = file_of(alloc, line.code.as_slice())?;

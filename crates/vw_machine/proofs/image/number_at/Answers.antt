@@ -2,7 +2,7 @@ use Rattle.std.proofs.Common.{◌≡◌, ℕ, ◌-◌, ◌<◌, length, ◌∙�
 use Rattle.std.proofs.lemmas.Grind.{common_steps}
 use Rattle.vw_machine.specs.Module.{view_of}
 use Rattle.vw_machine.proofs.ImageLemmas.{bytes_inside}
-use Rattle.vw_machine.proofs.Numbers.{field-from_bytes}
+use Rattle.vw_image.proofs.Numbers.{field-from_bytes}
 use Rattle.vw_machine.proofs.Words.{written, untouched}
 use Rattle.vw_machine.proofs.image.number_at.Goals as goal
 

@@ -1,7 +1,7 @@
 use Rattle.std.proofs.Common.{◌≡◌, ◌<◌, length, ◌∙◌, arith}
 use Rattle.std.proofs.lemmas.Grind.{common_steps}
 use Rattle.vw_machine.specs.Kept.{byte_in}
-use Rattle.vw_machine.proofs.Numbers.{field-from_bytes}
+use Rattle.vw_image.proofs.Numbers.{field-from_bytes}
 use Rattle.vw_machine.proofs.Words.{written, untouched}
 use Rattle.vw_machine.proofs.memory.number_in.Goals as goal
 

@@ -1,6 +1,6 @@
 use Rattle.std.proofs.Common.{◌≡◌, List, [], ◌∷◌, ◌++◌, ◌∙◌, sym, ap, subst}
 use Rattle.vw_machine.specs.declared.machine.Frame.{Frame}
-use Rattle.vw_machine.specs.State.{Activation, State}
+use Rattle.vw_machine.specs.State.{Activation, MachineState}
 use Rattle.vw_machine.specs.Step.{arrive}
 use Rattle.vw_machine.specs.Kept.{activations_of, state_of}
 use Rattle.vw_machine.specs.Found.{IsEnding}
@@ -23,5 +23,5 @@ returns-clause-ok c = λ top rest active.
     ∙ activations_of-push popped turned
     ∙ ap (λ (a : Activation). record a { entry = to } ∷ activations_of popped) found.0
     ∙ ap (λ (l : List Activation). record top { entry = to } ∷ l) found.1 in
-    let after : List Activation → State = λ l. state s.registers to s.flags s.bytes l in
+    let after : List Activation → MachineState = λ l. state s.registers to s.flags s.bytes l in
     subst (λ (l : List Activation). IsEnding s (arrive c.args.world.now (after l)) c.arrival.result (after (activations_of c.push_reserved.new.self.items))) back (c.arrival.ensures s)

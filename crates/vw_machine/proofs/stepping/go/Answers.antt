@@ -2,7 +2,7 @@ use Rattle.std.proofs.Common.{◌≡◌, List, [], ◌∷◌, ◌++◌, ◌∙�
 use Rattle.vw_effect.specs.Meaning.{after_of, transfer_of}
 use Rattle.vw_lift.specs.Simulation.{stored}
 use Rattle.vw_machine.specs.declared.machine.Frame.{Frame}
-use Rattle.vw_machine.specs.State.{Activation, State, store, after_writes}
+use Rattle.vw_machine.specs.State.{Activation, MachineState, store, after_writes}
 use Rattle.vw_machine.specs.Step.{Ending, arrive, left}
 use Rattle.vw_machine.specs.Kept.{byte_in, activation_of, activations_of, state_of}
 use Rattle.vw_machine.specs.Found.{IsEnding, active_after}
@@ -30,9 +30,9 @@ returns-in-Ok-clause-ok c = λ top rest active.
     ∙ ap (λ (a : Activation). active_after after work.next transfer a (activations_of popped)) marked
     ∙ ap (λ (l : List Activation). active_after after work.next transfer wrote l) found.1 in
     let new = byte_in c.settle.new.bytes in
-    let leaves : State = state after.registers to after.flags new (activations_of c.move_on.new.active.items) in
+    let leaves : MachineState = state after.registers to after.flags new (activations_of c.move_on.new.active.items) in
     let same : leaves ≡ left w s after to (active_after after work.next transfer wrote rest) =
     same_state after.registers to to after.flags after.flags new (stored (store w) s.bytes after.writes) (activations_of c.move_on.new.active.items) (active_after after work.next transfer wrote rest)
     refl refl c.in-Ok.ensures.bytes moved in
     subst (λ (e : Ending). IsEnding s e c.arrival.result leaves) (sym (goes w s top rest work to c.in-Some.ensures))
-    (subst (λ (t : State). IsEnding s (arrive w t) c.arrival.result leaves) same (c.arrival.ensures s))
+    (subst (λ (t : MachineState). IsEnding s (arrive w t) c.arrival.result leaves) same (c.arrival.ensures s))

@@ -12,7 +12,7 @@ use Rattle.std.specs.BTreeMap.{BTreeMap, IsEmpty, get}
 use Rattle.std.specs.Ordering.{nat_cmp}
 use Rattle.std.proofs.lemmas.Grind.{common_steps}
 use Rattle.vw_machine.specs.declared.machine.Frame.{Frame}
-use Rattle.vw_machine.proofs.Numbers.{load-bytes}
+use Rattle.vw_image.proofs.Numbers.{load-bytes}
 use Rattle.vw_machine.proofs.Regions.{heap_ends, stack_ends}
 use Rattle.vw_machine.proofs.machine.Machine.enter.Goals as goal
 
