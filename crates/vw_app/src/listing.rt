@@ -72,8 +72,8 @@ fn push_function<L: Ledger>(
     push_points(alloc, text, code, table.states.as_slice())
 }
 
-// The table of the last round.
-fn last_table(rounds: Rounds) -> FunctionTable
+/// The table of the last round.
+pub fn last_table(rounds: Rounds) -> FunctionTable
     ensures { result ≡ last_table rounds }
 {
     match rounds {

@@ -4,6 +4,7 @@ mod answers;
 mod fixtures;
 mod libraries;
 mod modules;
+mod report_rows;
 mod reports;
 mod rules;
 mod smallest;

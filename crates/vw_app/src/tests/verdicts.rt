@@ -5,8 +5,8 @@ use std::test::Fail;
 use vw_bits::List;
 use vw_outside::NeverFails;
 
-// Functions by their code: safe ones, and checks that fail.
-const VERDICTS: [(&str, u8, &str); 28] = [
+/// Functions by their code: safe ones, and checks that fail.
+pub const VERDICTS: [(&str, u8, &str); 28] = [
     ("8b8700000000c3", 0, "safe, functions 1\n"),
     ("8b87f8ffffffc3", 1, "unsafe, f+0x0, C4 address\n"),
     ("8b87f8ffffff90", 1, "unsafe, f+0x7, C1 code\n"),
@@ -47,8 +47,8 @@ const VERDICTS: [(&str, u8, &str); 28] = [
     ("757f90c3", 1, "unsafe, f+0x0, C2 jump\n"),
 ];
 
-// Functions that use their frame, compute addresses and call themselves.
-const FRAMES: [(&str, u8, &str); 28] = [
+/// Functions that use their frame, compute addresses and call themselves.
+pub const FRAMES: [(&str, u8, &str); 28] = [
     // rbp is pushed and popped, pushed alone, and rsp is not where it was
     ("554889e55dc3", 0, "safe, functions 1\n"),
     ("55c3", 1, "unsafe, f+0x1, C8 return\n"),
@@ -89,9 +89,52 @@ const FRAMES: [(&str, u8, &str); 28] = [
     ("ffd0c3", 1, "unsafe, f+0x0, C7 call\n"),
 ];
 
-// Switches: with the bound that the table needs and with one entry more; a jump of which no table is known; and a table
-// of one entry to itself, in a loop.
-const SWITCHES: [(&str, u8, &str); 4] = [
+/// Functions at the limits of what is permitted, and behind them.
+pub const LIMITS: [(&str, u8, &str); 19] = [
+    // an index of any number, the largest displacement, and the last two bytes of the heap's reservation and four there
+    ("8b040fc3", 1, "unsafe, f+0x0, C4 address\n"),
+    ("89c98b840fffffff7fc3", 0, "safe, functions 1\n"),
+    ("89c90fb7044fc3", 0, "safe, functions 1\n"),
+    ("89c98b044fc3", 1, "unsafe, f+0x2, C4 address\n"),
+    // the last eight bytes of the globals, and one byte behind
+    ("488b47f8488b80f80f0000c3", 0, "safe, functions 1\n"),
+    ("488b47f8488b80f90f0000c3", 1, "unsafe, f+0x4, C4 address\n"),
+    // a write over the return address, and a read of eight bytes that were not written
+    ("48894424fcc3", 1, "unsafe, f+0x0, C5 read only\n"),
+    ("488b4424f8c3", 1, "unsafe, f+0x0, C6 local\n"),
+    // a loop with a copy of an earlier turn, where another number is compared, and a copy of the compared number
+    (
+        "31c9488b07483d0010000073038b140f4889c1ebed",
+        1,
+        "unsafe, f+0xd, C4 address\n",
+    ),
+    (
+        "488b074889c1483d0010000073038b140fc3",
+        0,
+        "safe, functions 1\n",
+    ),
+    // a jump into its own last byte
+    ("ebffc0c3", 0, "safe, functions 1\n"),
+    // the last bytes of the caller, and one behind; the lowest bytes of the guard, and eight below
+    ("488b842400100000c3", 0, "safe, functions 1\n"),
+    ("488b842401100000c3", 1, "unsafe, f+0x0, C6 local\n"),
+    ("4889842400e0ffffc3", 0, "safe, functions 1\n"),
+    ("48898424f8dfffffc3", 1, "unsafe, f+0x0, C3 depth\n"),
+    // a write of the low byte behind the bound, and a spilled word below rsp over a call
+    ("89c9b1ff8b040fc3", 1, "unsafe, f+0x4, C4 address\n"),
+    (
+        "48897c24f0e8f6ffffff488b7c24f08b07c3",
+        1,
+        "unsafe, f+0xf, C4 address\n",
+    ),
+    // sixteen bytes of an XMM register below the return address, and eight of them over it
+    ("0f57c00f114424f0c3", 0, "safe, functions 1\n"),
+    ("0f57c00f114424f8c3", 1, "unsafe, f+0x3, C5 read only\n"),
+];
+
+/// Switches: with the bound that the table needs and with one entry more; a jump of which no table is known; and a table
+/// of one entry to itself, in a loop.
+pub const SWITCHES: [(&str, u8, &str); 4] = [
     (SWITCH, 0, "safe, functions 1\n"),
     (SWITCH_ABOVE, 1, "unsafe, f+0x15, C2 jump\n"),
     ("488d0500000000ffe0c3", 1, "unsafe, f+0x7, C2 jump\n"),
@@ -116,6 +159,11 @@ fn verdicts(rt: HostRuntime) -> Result<(), Fail> {
 #[test]
 fn verdicts_on_frames(rt: HostRuntime) -> Result<(), Fail> {
     judge_each(&rt, &FRAMES)
+}
+
+#[test]
+fn verdicts_at_limits(rt: HostRuntime) -> Result<(), Fail> {
+    judge_each(&rt, &LIMITS)
 }
 
 // Judges functions by their code.

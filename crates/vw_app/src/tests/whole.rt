@@ -172,26 +172,34 @@ const ABOVE: (usize, &[u8]) = (CALLER + 12, &[0x77]);
 /// The switch is a `ret`.
 const NO_SWITCH: (usize, &[u8]) = (SWITCHER, &[0xC3]);
 
-// A call through a table of functions with and without what it needs, and a switch over words that are bound to an
-// import, whose accesses fail too, but at a check that is asked later.
+/// What is changed in the module of `calling_parts`, as pieces by their offsets, with the verdict: a call through a table
+/// of functions with and without what it needs, and a switch over words that are bound to an import, whose accesses fail
+/// too, but at a check that is asked later.
+pub const CALLS: [(&[(usize, &[u8])], u8, &str); 5] = [
+    (&[NO_SWITCH], 0, "safe, functions 2\n"),
+    (&[], 1, "unsafe, g+0x15, C2 jump\n"),
+    (&[EMPTY_TAG], 1, "unsafe, f+0x25, C7 call\n"),
+    (&[NO_TEST, SHORTER], 1, "unsafe, f+0x1f, C7 call\n"),
+    (&[ABOVE, NO_SWITCH], 1, "unsafe, f+0x1c, C4 address\n"),
+];
+
+/// The module of `calling_parts` with these changes.
+pub fn calling_module(alloc: Global, patches: &[(usize, &[u8])]) -> Result<Vec<u8>, Fail> {
+    let file = write_module(alloc, &calling_parts(alloc)?)?;
+    let mut bytes = file.as_slice().to_vec(alloc)?;
+    for (at, piece) in patches {
+        patch(&mut bytes, *at, piece);
+    }
+    Ok(bytes)
+}
+
 #[test]
 fn calls_through_tables(rt: HostRuntime) -> Result<(), Fail> {
     let alloc = rt.alloc();
-    let file = write_module(alloc, &calling_parts(alloc)?)?;
-    let cases: [(&[(usize, &[u8])], u8, &str); 5] = [
-        (&[NO_SWITCH], 0, "safe, functions 2\n"),
-        (&[], 1, "unsafe, g+0x15, C2 jump\n"),
-        (&[EMPTY_TAG], 1, "unsafe, f+0x25, C7 call\n"),
-        (&[NO_TEST, SHORTER], 1, "unsafe, f+0x1f, C7 call\n"),
-        (&[ABOVE, NO_SWITCH], 1, "unsafe, f+0x1c, C4 address\n"),
-    ];
-    for (patches, status, text) in cases {
-        let mut bytes = file.as_slice().to_vec(alloc)?;
-        for (at, piece) in patches {
-            patch(&mut bytes, *at, piece);
-        }
-        let mut shelf = NeverFails::new(List::from_vec(bytes));
-        expect(&rt, &["verify", "m"], &mut shelf, &[], (status, text))?;
+    for (patches, status, text) in CALLS.iter() {
+        let file = calling_module(alloc, patches)?;
+        let mut shelf = NeverFails::new(List::from_vec(file));
+        expect(&rt, &["verify", "m"], &mut shelf, &[], (*status, *text))?;
     }
     Ok(())
 }
