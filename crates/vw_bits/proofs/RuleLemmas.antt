@@ -1,11 +1,11 @@
 -- The lowest broken rule, rule by rule.
-use Rattle.std.proofs.Common.{◌≡◌, ℕ, ◌+◌, ◌<◌, ◌≤◌, ◌*◌, Bool, true, false, List, [], ◌∷◌, ◌++◌, length, Option, Some, None, arith, refl, nat_le, cond, ap, subst, suc, zero, get_or, ◌-◌, append_assoc}
+use Rattle.std.proofs.Common.{◌≡◌, ℕ, ◌+◌, ◌<◌, ◌≤◌, ◌*◌, Bool, true, false, List, [], ◌∷◌, ◌++◌, length, Option, Some, None, arith, refl, nat_le, cond, ap, subst, suc, zero, get_or, ◌-◌}
 use Rattle.std.specs.List.{find}
 use Rattle.std.proofs.lemmas.Bool.Decides.{nat_tests}
 use Rattle.vw_bits.specs.Headers.{e_phoff, e_phnum, e_shnum, sh_link, table}
 use Rattle.vw_bits.specs.Rules.{unless, lowest_broken, AllHold}
 use Rattle.vw_bits.specs.HeaderRules.{header_rules, section_table_rule, symbol_section_fits, has_strings, SectionsInside}
-use Rattle.vw_bits.proofs.Tables.{table-split, table-more}
+use Rattle.vw_bits.proofs.Tables.{table_split_at}
 
 pub lowest-next : (n : ℕ) (rule : Option ℕ) (rules : List (Option ℕ)) (w : Option (ℕ × ℕ)) → rule ≡ None → lowest_broken (n + 1) rules ≡ w → lowest_broken n (rule ∷ rules) ≡ w
 lowest-next n rule rules w holds rest = rw holds rest
@@ -62,9 +62,7 @@ find_none_append p (x ∷ xs) y ys none = find_none_append p xs y ys (passed x _
 
 find_none_within : (p : ℕ → Bool) (at size n more : ℕ) → find p (table at size ((n + 1) + more)) ≡ None → p (at + size * n) ≡ false
 find_none_within p at size n more none =
-    let split : table at size ((n + 1) + more) ≡ table at size n ++ (at + size * n) ∷ table (at + size * (n + 1)) size more =
-    rw (table-split at size (n + 1) more, table-more at size n, append_assoc) refl in
-    find_none_append p (table at size n) (at + size * n) (table (at + size * (n + 1)) size more) (rw split at none)
+    find_none_append p (table at size n) (at + size * n) (table (at + size * (n + 1)) size more) (rw (table_split_at at size n more) at none)
 
 -- no item of a table passes a test that finds none
 pub find_none_at : (p : ℕ → Bool) (at size count n : ℕ) → find p (table at size count) ≡ None → n < count → p (at + size * n) ≡ false

@@ -1,5 +1,5 @@
 -- Tables grow by one item at their end, and the first item that passes a test is found on the way.
-use Rattle.std.proofs.Common.{◌≡◌, ℕ, ◌+◌, ◌*◌, ◌<◌, Bool, true, false, cond, List, [], ◌∷◌, ◌++◌, length, get_or, take, drop, map, Some, None, refl, sym, ap, ◌∙◌, arith, zero, suc, ◌-◌, ◌==◌, add-zero, append_assoc}
+use Rattle.std.proofs.Common.{◌≡◌, ℕ, ◌+◌, ◌*◌, ◌<◌, Bool, true, false, cond, List, [], ◌∷◌, ◌++◌, length, get_or, take, drop, map, Some, None, refl, sym, ap, ◌∙◌, subst, arith, zero, suc, ◌-◌, ◌==◌, add-zero, append_assoc}
 use Rattle.std.specs.List.{find, filter}
 use Rattle.std.proofs.lemmas.Bool.Decides.{nat_tests}
 use Rattle.std.proofs.lemmas.List.FromFn.{map-range_with_len_more}
@@ -34,6 +34,16 @@ table-split at size n (suc m) =
     let whole : suc m ≡ m + 1 = omega arith in
     let last : at + size * (n + m) ≡ at + size * n + size * m = omega arith in
     rw (count, whole, table-more at size (n + m), table-more (at + size * n) size m, table-split at size n m, append_assoc, last) refl
+
+-- a table split at an item
+pub table_split_at : (at size n more : ℕ) → table at size ((n + 1) + more) ≡ table at size n ++ (at + size * n) ∷ table (at + size * (n + 1)) size more
+table_split_at at size n more = rw (table-split at size (n + 1) more, table-more at size n, append_assoc) refl
+
+pub table-at : (at size n count : ℕ) → n < count → (more : ℕ) × (table at size count ≡ table at size n ++ (at + size * n) ∷ table (at + size * (n + 1)) size more)
+table-at at size n count inside =
+    let whole : (n + 1) + (count - (n + 1)) ≡ count = omega arith in
+    let P : ℕ → Type 0 = λ k. table at size k ≡ table at size n ++ (at + size * n) ∷ table (at + size * (n + 1)) size (count - (n + 1)) in
+    (count - (n + 1), subst P whole (table_split_at at size n (count - (n + 1))))
 
 pub find_table_here : (p : ℕ → Bool) (at size n count x : ℕ) → n < count → x ≡ at + size * n → find p (table at size n) ≡ None → p x ≡ true → find p (table at size count) ≡ Some x
 find_table_here p at size n count x inside is before here =

@@ -7,3 +7,5 @@ pub mod HeaderRules
 pub mod Lists
 pub mod Places
 pub mod Symbols
+pub mod DynamicTables
+pub mod Bounds

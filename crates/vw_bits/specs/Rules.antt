@@ -26,3 +26,16 @@ with_earlier xs = each_after [] xs
 -- all these rules hold
 abbrev pub AllHold : List (Option ℕ) → Type 0
 AllHold rules = lowest_broken 1 rules ≡ None
+
+-- What an error says of the rules: `told` is the number of a rule and the offset that it names, and `None` where
+-- the error is of something else, which says nothing.
+
+-- the error is the first broken rule
+abbrev pub NamesBroken : Option (ℕ × ℕ) → Option (ℕ × ℕ) → Type 0
+NamesBroken broken None = Unit {0}
+NamesBroken broken (Some fault) = broken ≡ Some fault
+
+-- the error is of this rule, broken at its offset
+abbrev pub TellsBroken : ℕ → Option ℕ → Option (ℕ × ℕ) → Type 0
+TellsBroken number broken None = Unit {0}
+TellsBroken number broken (Some fault) = (fault.0 ≡ number) × (broken ≡ Some fault.1)

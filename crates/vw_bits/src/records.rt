@@ -1,4 +1,7 @@
-use crate::Rights;
+ghost use Rattle.std.specs.Prelude.{◌≡◌, ◌+◌, ◌≤◌, length};
+ghost use Rattle.vw_bits.specs.Symbols.{symbol_at, symbol_type, is_defined, is_import};
+
+use crate::{Rights, Sym};
 
 /// A loadable segment of a file: a program header of type PT_LOAD (gABI, "Program Header").
 #[derive(Clone, Copy, Debug, PartialEq, Eq)]
@@ -43,4 +46,49 @@ pub struct Symbol {
     pub size: u64,
     /// The file offset of the entry.
     pub at: u64,
+}
+
+const SHN_UNDEF: u16 = 0;
+
+const SHN_LORESERVE: u16 = 0xff00;
+
+impl Symbol {
+    /// The symbol whose entry is at a file offset.
+    #[tactic(auto, unfolding(crate::specs::Symbols::symbol_at))]
+    pub fn read(bytes: &[u8], at: u64) -> Symbol
+        requires { at + 24 ≤ length bytes.now }
+        ensures { result ≡ symbol_at bytes.now at }
+    {
+        let entry = Sym::read(bytes, at);
+        Symbol {
+            name: entry.st_name,
+            info: entry.st_info,
+            shndx: entry.st_shndx,
+            value: entry.st_value,
+            size: entry.st_size,
+            at,
+        }
+    }
+
+    /// ELF64_ST_TYPE.
+    pub fn symbol_type(&self) -> u8
+        ensures { result ≡ symbol_type self.now }
+    {
+        self.info % 16
+    }
+
+    /// Whether the symbol is an import: `st_shndx` is SHN_UNDEF.
+    pub fn is_import(&self) -> bool
+        ensures { result ≡ is_import self.now }
+    {
+        self.shndx == SHN_UNDEF
+    }
+
+    /// Whether the symbol is defined in this file: `st_shndx` is neither SHN_UNDEF nor at or above
+    /// SHN_LORESERVE.
+    pub fn is_defined(&self) -> bool
+        ensures { result ≡ is_defined self.now }
+    {
+        self.shndx != SHN_UNDEF && self.shndx < SHN_LORESERVE
+    }
 }

@@ -1,61 +1,20 @@
--- What the rules on headers give of the segments.
-use Rattle.std.proofs.Common.{◌≡◌, ℕ, ◌+◌, ◌*◌, ◌≤◌, ◌^◌, ◌++◌, ◌==◌, [], ◌∷◌, Bool, true, false, not, cond, nat_le, List, length, All, Option, Some, None, unwrap_or, refl, arith, length-append}
-use Rattle.std.specs.List.{find, filter, list_any}
-use Rattle.std.proofs.lemmas.Bool.Decides.{nat_tests}
+-- How many relocations a file has, whose tables are in its segments.
+use Rattle.std.proofs.Common.{◌≡◌, ℕ, ◌+◌, ◌*◌, ◌≤◌, ◌==◌, [], ◌∷◌, Bool, true, false, not, cond, List, length, Option, Some, None, unwrap_or, refl, arith, length-append}
+use Rattle.std.specs.List.{filter, list_any}
 use Rattle.std.proofs.lemmas.List.{length-map}
 use Rattle.std.proofs.lemmas.List.FromFn.{length-map-range_with_len}
-use Rattle.std.proofs.lemmas.List.Elements.{All-nil, All-cons, All-weaker}
-use Rattle.vw_bits.specs.Headers.{segments_of, table}
-use Rattle.vw_bits.specs.Rules.{unless}
-use Rattle.vw_bits.specs.HeaderRules.{header_fault, header_rules, segment_rules, segment_fits, header_of, section_table_rule, symbol_section_rule}
+use Rattle.vw_bits.specs.Headers.{table}
+use Rattle.vw_bits.specs.Bounds.{AreBounded}
 use Rattle.vw_bits.specs.declared.records.Segment.{Segment}
-use Rattle.vw_bits.proofs.RuleLemmas.{lowest-each, unless-holds}
-use Rattle.vw_dynamic.specs.Bounds.{IsBounded, AreBounded}
+use Rattle.vw_bits.proofs.BoundLemmas.{file_offset-inside}
 use Rattle.vw_dynamic.specs.Directory.{table_offset, items_at, relocation_offsets}
 use Rattle.vw_dynamic.specs.Relas.{relas_of}
 use Rattle.vw_dynamic.specs.declared.directory.Directory.{Directory}
-use Rattle.vw_dynamic.proofs.PlaceLemmas.{table_offset-inside}
 
-passed : {X : Type 0} (x : X) (rest : Option X) (passes : Bool) → cond passes (Some x) rest ≡ None → (passes ≡ false) × (rest ≡ None)
-passed x rest true none = cc
-passed x rest false none = (refl, none)
-
-find_none-All : {X : Type 0} (p : X → Bool) (xs : List X) → find p xs ≡ None → All (λ x. p x ≡ false) xs
-find_none-All p [] none = All-nil (λ x. p x ≡ false)
-find_none-All p (x ∷ xs) none =
-    let both = passed x (find p xs) (p x) none in
-    All-cons (λ x. p x ≡ false) x xs both.0 (find_none-All p xs both.1)
-
-unfound : (found : Option Segment) → header_of found ≡ None → found ≡ None
-unfound None none = refl
-unfound (Some s) none = cc
-
-bounded : (len : ℕ) (s : Segment) → not (segment_fits len s) ≡ false → IsBounded len s
-bounded len s fits = record { inside = grind (arith, nat_tests, fits); below = grind (arith, nat_tests, fits) }
-
-abbrev all_rules : List ℕ → List (Option ℕ)
-all_rules bytes = header_rules bytes ++ segment_rules (length bytes) (segments_of bytes) ++ section_table_rule bytes ∷ symbol_section_rule bytes ∷ []
-
-pub AreBounded-from_rules : (bytes : List ℕ) → header_fault bytes ≡ None → AreBounded (length bytes) (segments_of bytes)
-unfolding header_fault header_rules segment_rules
-AreBounded-from_rules bytes holds =
-    let rule : header_of (find (λ s. not (segment_fits (length bytes) s)) (segments_of bytes)) ≡ None = lowest-each 1 (all_rules bytes) holds 9 in
-    All-weaker (λ s. not (segment_fits (length bytes) s) ≡ false) (IsBounded (length bytes)) (bounded (length bytes)) (segments_of bytes) (find_none-All (λ s. not (segment_fits (length bytes) s)) (segments_of bytes) (unfound (find (λ s. not (segment_fits (length bytes) s)) (segments_of bytes)) rule))
-
-pub length-from_rules : (bytes : List ℕ) → header_fault bytes ≡ None → length bytes ≤ 67108864
-unfolding header_fault header_rules segment_rules
-length-from_rules bytes holds =
-    let rule : unless (nat_le (length bytes) 67108864) 67108864 ≡ None = lowest-each 1 (all_rules bytes) holds 0 in
-    let test = unless-holds (nat_le (length bytes) 67108864) 67108864 rule in
-    grind (arith, nat_tests, test)
-
-widen : (len : ℕ) (s : Segment) → len ≤ 2 ^ 32 → IsBounded len s → IsBounded (2 ^ 32) s
-widen len s small b =
-    let end : s.offset + s.filesz ≤ len = b.inside in
-    record { inside = omega arith; below = b.below }
-
-pub AreBounded-widen : (len : ℕ) (segments : List Segment) → len ≤ 2 ^ 32 → AreBounded len segments → AreBounded (2 ^ 32) segments
-AreBounded-widen len segments small all = All-weaker (IsBounded len) (IsBounded (2 ^ 32)) (λ s. widen len s small) segments all
+pub table_offset-inside : (len : ℕ) (segments : List Segment) (address size : Option ℕ) (o : ℕ) → AreBounded len segments → table_offset segments address size ≡ Some o → o + unwrap_or size 0 ≤ len
+table_offset-inside len segments None size o bounded at = cc
+table_offset-inside len segments (Some address) None o bounded at = cc
+table_offset-inside len segments (Some address) (Some size) o bounded at = file_offset-inside len segments address size o bounded at
 
 length-table : (at size n : ℕ) → length (table at size n) ≡ n
 unfolding table

@@ -9,7 +9,7 @@ use Rattle.vw_bits.specs.declared.records.Segment.{Segment}
 use Rattle.vw_dynamic.specs.Names.{with_name}
 use Rattle.vw_dynamic.specs.Relas.{is_none_kind}
 use Rattle.vw_dynamic.specs.Targets.{import_of, kind_of, relocation_of}
-use Rattle.vw_dynamic.specs.declared.relas.Rela.{Rela}
+use Rattle.vw_dynamic.specs.declared.relas.RelaEntry.{RelaEntry}
 use Rattle.vw_dynamic.specs.declared.dynamic.Relocation.{Relocation}
 use Rattle.vw_dynamic.specs.declared.dynamic.RelKind.{RelKind}
 use Rattle.vw_dynamic.specs.declared.dynamic.RelKind.TheVariants.{Based, Bound}
@@ -82,10 +82,10 @@ abbrev pub with_import : List (List ℕ) → Option (List ℕ) → List (List �
 with_import names name = option_map_or (with_name names) name names
 
 -- the name of a relocation on an import is among these
-abbrev pub IsThere : (Rela → Option (List ℕ)) → List (List ℕ) → Rela → Type 0
+abbrev pub IsThere : (RelaEntry → Option (List ℕ)) → List (List ℕ) → RelaEntry → Type 0
 IsThere f names r = (name : List ℕ) → f r ≡ Some name → list_any (bytes_eq name) names ≡ true
 
-abbrev pub AreThere : (Rela → Option (List ℕ)) → List (List ℕ) → List Rela → Type 0
+abbrev pub AreThere : (RelaEntry → Option (List ℕ)) → List (List ℕ) → List RelaEntry → Type 0
 AreThere f names [] = Unit {0}
 AreThere f names (r ∷ rs) = IsThere f names r × AreThere f names rs
 
@@ -100,10 +100,10 @@ added_here : (name : List ℕ) (names : List (List ℕ)) (found : Bool) → list
 added_here name names true is = is
 added_here name names false is = rw (list_any-append, is, same_bytes name) refl
 
-here_there : (f : Rela → Option (List ℕ)) (names : List (List ℕ)) (r : Rela) → IsThere f (with_import names (f r)) r
+here_there : (f : RelaEntry → Option (List ℕ)) (names : List (List ℕ)) (r : RelaEntry) → IsThere f (with_import names (f r)) r
 here_there f names r name is = rw is (added_here name names (list_any (bytes_eq name) names) refl)
 
-pub there-more : (f : Rela → Option (List ℕ)) (names : List (List ℕ)) (before : List Rela) (r : Rela) → AreThere f names before → AreThere f (with_import names (f r)) (before ++ r ∷ [])
+pub there-more : (f : RelaEntry → Option (List ℕ)) (names : List (List ℕ)) (before : List RelaEntry) (r : RelaEntry) → AreThere f names before → AreThere f (with_import names (f r)) (before ++ r ∷ [])
 there-more f names [] r there = (here_there f names r, tt)
 there-more f names (b ∷ bs) r there = (λ name is. (still name names (f r) (there.0 name is)).0, there-more f names bs r there.1)
 
@@ -114,22 +114,22 @@ bound_stays None other else_ names there = refl
 bound_stays (Some n) other else_ names there = ap (λ (o : Option ℕ). Bound (unwrap_or o 0)) (sym (still n names other (there n refl)).1)
 
 module _ (bytes : List ℕ) (segments : List Segment) (strings : List ℕ) (symtab : Option ℕ) where
-  abbrev pub f : Rela → Option (List ℕ)
+  abbrev pub f : RelaEntry → Option (List ℕ)
   f r = import_of bytes segments strings symtab r
 
-  kind_stays : (names : List (List ℕ)) (other : Option (List ℕ)) (r : Rela) → IsThere f names r → kind_of bytes segments strings symtab names r ≡ kind_of bytes segments strings symtab (with_import names other) r
+  kind_stays : (names : List (List ℕ)) (other : Option (List ℕ)) (r : RelaEntry) → IsThere f names r → kind_of bytes segments strings symtab names r ≡ kind_of bytes segments strings symtab (with_import names other) r
   unfolding kind_of
   kind_stays names other r there = ap (λ (k : RelKind). cond (r.kind == 8) (Based r.addend) k) (bound_stays (f r) other _ names there)
 
   -- what relocations give, but those of type NONE
-  abbrev pub kept : List (List ℕ) → List Rela → List Relocation
+  abbrev pub kept : List (List ℕ) → List RelaEntry → List Relocation
   kept names relas = map (relocation_of bytes segments strings symtab names) (filter (λ r. not (is_none_kind r)) relas)
 
-  kept_step : (g h : Rela → Relocation) (r : Rela) (rs : List Rela) (none : Bool) → g r ≡ h r → map g (filter (λ r. not (is_none_kind r)) rs) ≡ map h (filter (λ r. not (is_none_kind r)) rs) → map g (cond (not none) (r ∷ filter (λ r. not (is_none_kind r)) rs) (filter (λ r. not (is_none_kind r)) rs)) ≡ map h (cond (not none) (r ∷ filter (λ r. not (is_none_kind r)) rs) (filter (λ r. not (is_none_kind r)) rs))
+  kept_step : (g h : RelaEntry → Relocation) (r : RelaEntry) (rs : List RelaEntry) (none : Bool) → g r ≡ h r → map g (filter (λ r. not (is_none_kind r)) rs) ≡ map h (filter (λ r. not (is_none_kind r)) rs) → map g (cond (not none) (r ∷ filter (λ r. not (is_none_kind r)) rs) (filter (λ r. not (is_none_kind r)) rs)) ≡ map h (cond (not none) (r ∷ filter (λ r. not (is_none_kind r)) rs) (filter (λ r. not (is_none_kind r)) rs))
   kept_step g h r rs true here rest = rest
   kept_step g h r rs false here rest = rw (here, rest) refl
 
-  pub kept_stay : (names : List (List ℕ)) (other : Option (List ℕ)) (before : List Rela) → AreThere f names before → kept names before ≡ kept (with_import names other) before
+  pub kept_stay : (names : List (List ℕ)) (other : Option (List ℕ)) (before : List RelaEntry) → AreThere f names before → kept names before ≡ kept (with_import names other) before
   kept_stay names other [] there = refl
   kept_stay names other (r ∷ rs) there =
       let item : RelKind → Relocation = λ k. record { place = r.place; kind = k; at = r.at } in

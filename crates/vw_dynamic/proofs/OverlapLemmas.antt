@@ -4,28 +4,21 @@ use Rattle.std.specs.List.{filter, list_any}
 use Rattle.std.proofs.lemmas.List.Folds.{list_any-append}
 use Rattle.std.proofs.lemmas.Bool.{false≢true}
 use Rattle.std.proofs.lemmas.Bool.Decides.{eqb_tells, nat_tests}
+use Rattle.vw_bits.proofs.ListLemmas.{or_true, or_cases}
 use Rattle.vw_dynamic.specs.Relas.{is_none_kind, share_byte, shares}
-use Rattle.vw_dynamic.specs.declared.relas.Rela.{Rela}
+use Rattle.vw_dynamic.specs.declared.relas.RelaEntry.{RelaEntry}
 
 -- the places that relocations change
-abbrev pub places_of : List Rela → List ℕ
+abbrev pub places_of : List RelaEntry → List ℕ
 places_of relas = map (λ r. r.place) (filter (λ r. not (is_none_kind r)) relas)
 
-any_step : (f : ℕ → Bool) (r : Rela) (rest : List Rela) (none tail : Bool) → tail ≡ list_any f (map (λ r. r.place) rest) → ((not none && f r.place) || tail) ≡ list_any f (map (λ r. r.place) (cond (not none) (r ∷ rest) rest))
+any_step : (f : ℕ → Bool) (r : RelaEntry) (rest : List RelaEntry) (none tail : Bool) → tail ≡ list_any f (map (λ r. r.place) rest) → ((not none && f r.place) || tail) ≡ list_any f (map (λ r. r.place) (cond (not none) (r ∷ rest) rest))
 any_step f r rest true tail is = is
 any_step f r rest false tail is = ap (λ (t : Bool). f r.place || t) is
 
-pub any_places : (f : ℕ → Bool) (relas : List Rela) → list_any (λ e. not (is_none_kind e) && f e.place) relas ≡ list_any f (places_of relas)
+pub any_places : (f : ℕ → Bool) (relas : List RelaEntry) → list_any (λ e. not (is_none_kind e) && f e.place) relas ≡ list_any f (places_of relas)
 any_places f [] = refl
 any_places f (r ∷ rs) = any_step f r (filter (λ r. not (is_none_kind r)) rs) (is_none_kind r) _ (any_places f rs)
-
-or_true : (b : Bool) → (b || true) ≡ true
-or_true true = refl
-or_true false = refl
-
-or_cases : (a b : Bool) → (a || b) ≡ true → (a ≡ true) ⊎ (b ≡ true)
-or_cases true b h = inl refl
-or_cases false b h = inr h
 
 abbrev is_in : ℕ → List ℕ → Bool
 is_in p ps = list_any (λ q. q == p) ps

@@ -7,7 +7,7 @@ use Rattle.vw_bits.specs.declared.records.Segment.{Segment}
 use Rattle.vw_bits.specs.declared.records.DynHeader.{DynHeader}
 use Rattle.vw_dynamic.specs.declared.entries.Entry.{Entry}
 use Rattle.vw_dynamic.specs.declared.directory.Directory.{Directory}
-use Rattle.vw_dynamic.specs.declared.relas.Rela.{Rela}
+use Rattle.vw_dynamic.specs.declared.relas.RelaEntry.{RelaEntry}
 use Rattle.vw_dynamic.specs.declared.dynamic.Relocation.{Relocation}
 use Rattle.vw_dynamic.specs.Entries.{section_offset, section_entries, second_header, is_forbidden, first_repeated, offset_of}
 use Rattle.vw_dynamic.specs.Directory.{directory_of, is_misfit, lacks_strings, is_unplaced}
@@ -33,7 +33,7 @@ entry_rules segments entries =
     ∷ []
 
 -- Rules 23 to 26, for the relocations.
-unfoldable pub rela_rules : List ℕ → List Segment → List ℕ → Option ℕ → List Rela → List (Option ℕ)
+unfoldable pub rela_rules : List ℕ → List Segment → List ℕ → Option ℕ → List RelaEntry → List (Option ℕ)
 rela_rules bytes segments strings symtab relas =
     rela_offset (find (λ r. not (is_known r)) relas)
     ∷ rela_offset (find (is_misplaced segments) relas)

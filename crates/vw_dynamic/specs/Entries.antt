@@ -1,7 +1,7 @@
 -- The entries of the dynamic section, and rules 15 to 19 (System V gABI, "Dynamic Section").
-use Rattle.std.specs.Prelude.{ℕ, ◌+◌, ◌/◌, Bool, not, ◌&&◌, ◌||◌, ◌==◌, List, [], ◌∷◌, map, Option, Some, None, option_map, option_and_then, Vec}
+use Rattle.std.specs.Prelude.{ℕ, ◌/◌, Bool, not, ◌&&◌, ◌||◌, ◌==◌, List, [], ◌∷◌, map, Option, Some, None, option_map, option_and_then, Vec}
 use Rattle.std.specs.List.{find, list_any}
-use Rattle.vw_bits.specs.Fields.{field}
+use Rattle.vw_bits.specs.DynamicTables.{d_tag, d_un}
 use Rattle.vw_bits.specs.Headers.{table}
 use Rattle.vw_bits.specs.Lists.{before_first}
 use Rattle.vw_bits.specs.Rules.{with_earlier}
@@ -12,7 +12,7 @@ use Rattle.vw_dynamic.specs.declared.entries.Entry.{Entry}
 
 -- d_tag and d_un of the entry at a file offset
 unfoldable pub entry_at : List ℕ → ℕ → Entry
-entry_at bytes at = record { at = at; tag = field bytes at 8; value = field bytes (at + 8) 8 }
+entry_at bytes at = record { at = at; tag = d_tag bytes at; value = d_un bytes at }
 
 -- the whole entries among `size` bytes from a file offset on
 unfoldable pub whole_entries : List ℕ → ℕ → ℕ → List Entry

@@ -1,4 +1,3 @@
-pub mod Bounds
 pub mod Faults
 pub mod Entries
 pub mod Directory

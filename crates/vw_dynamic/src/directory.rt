@@ -1,13 +1,12 @@
 ghost use Rattle.std.specs.Prelude.{◌≡◌, ◌+◌, ◌≤◌, ◌*◌, ◌^◌, ◌++◌, not, length, filter, is_some, Some, None, All, IfOk};
 ghost use Rattle.std.specs.List.{find, list_any};
 ghost use Rattle.vw_bits.specs.Headers.{table};
-ghost use Rattle.vw_dynamic.specs.Bounds.{AreBounded};
+ghost use Rattle.vw_bits.specs.Bounds.{AreBounded};
 ghost use Rattle.vw_dynamic.specs.Entries.{offset_of};
 ghost use Rattle.vw_dynamic.specs.Directory.{value_of, directory_of, is_misfit, lacks_strings, is_unplaced, table_offset, items_at};
 
 use crate::entries::Entry;
-use crate::places::file_offset;
-use vw_bits::Segment;
+use vw_bits::{Rela, Segment, file_offset};
 
 /// The tables that the dynamic section names: addresses and sizes in bytes, where they stand.
 #[derive(Clone, Copy, Debug)]
@@ -46,9 +45,6 @@ const DT_PLTREL: u64 = 20;
 
 const DT_JMPREL: u64 = 23;
 
-/// The size of a relocation.
-const RELA_SIZE: u64 = 24;
-
 #[tactic(auto, unfolding(crate::specs::Directory::directory_of))]
 pub(crate) fn directory_of(entries: &[Entry]) -> Directory
     ensures { result ≡ directory_of entries.now }
@@ -86,12 +82,12 @@ fn is_misfit(directory: &Directory, entry: &Entry) -> bool
     ensures { result ≡ is_misfit directory.now entry.now }
 {
     match entry.tag {
-        DT_RELAENT => entry.value != RELA_SIZE,
+        DT_RELAENT => entry.value != Rela::SIZE,
         DT_PLTREL => entry.value != DT_RELA,
         DT_RELA => directory.relasz.is_none(),
-        DT_RELASZ => directory.rela.is_none() || entry.value % RELA_SIZE != 0,
+        DT_RELASZ => directory.rela.is_none() || entry.value % Rela::SIZE != 0,
         DT_JMPREL => directory.pltrelsz.is_none(),
-        DT_PLTRELSZ => directory.jmprel.is_none() || entry.value % RELA_SIZE != 0,
+        DT_PLTRELSZ => directory.jmprel.is_none() || entry.value % Rela::SIZE != 0,
         _ => false,
     }
 }
@@ -102,7 +98,7 @@ pub(crate) fn symbols_without_strings(
     directory: &Directory,
     entries: &[Entry],
 ) -> Option<u64>
-    requires { AreBounded (2 ^ 32) segments.now }
+    requires { AreBounded (2 ^ 64) segments.now }
     ensures { result ≡ offset_of (find (lacks_strings segments.now directory.now) entries.now) }
 {
     let has_strings = table_offset(segments, directory.strtab, directory.strsz).is_some();
@@ -118,7 +114,7 @@ pub(crate) fn first_unplaced(
     directory: &Directory,
     entries: &[Entry],
 ) -> Option<u64>
-    requires { AreBounded (2 ^ 32) segments.now }
+    requires { AreBounded (2 ^ 64) segments.now }
     ensures { result ≡ offset_of (find (is_unplaced segments.now directory.now) entries.now) }
 {
     let rela = table_offset(segments, directory.rela, directory.relasz).is_some();
@@ -135,7 +131,7 @@ pub(crate) fn table_offset(
     address: Option<u64>,
     size: Option<u64>,
 ) -> Option<u64>
-    requires { AreBounded (2 ^ 32) segments.now }
+    requires { AreBounded (2 ^ 64) segments.now }
     ensures { result ≡ table_offset segments.now address size }
 {
     match (address, size) {

@@ -4,7 +4,7 @@ ghost use Rattle.std.specs.Option.{option_map_or};
 ghost use Rattle.vw_bits.specs.Headers.{segments_of, dynamics_of};
 ghost use Rattle.vw_bits.specs.Rules.{unless, lowest_broken, AllHold};
 ghost use Rattle.vw_bits.specs.HeaderRules.{header_fault};
-ghost use Rattle.vw_dynamic.specs.Bounds.{AreBounded};
+ghost use Rattle.vw_bits.specs.Bounds.{AreBounded};
 ghost use Rattle.vw_dynamic.specs.Faults.{Names, Tells};
 ghost use Rattle.vw_dynamic.specs.Names.{with_name};
 ghost use Rattle.vw_dynamic.specs.Relas.{is_known, rela_offset};
@@ -19,14 +19,13 @@ use crate::directory::{
 };
 use crate::entries::{Entry, first_forbidden, first_repeated, read_entries};
 use crate::faults::refuse;
-use crate::places::file_offset;
 use crate::relas::{
-    R_NONE, R_RELATIVE, Rela, first_misplaced, first_overlap, first_unknown, read_relas,
+    R_NONE, R_RELATIVE, RelaEntry, first_misplaced, first_overlap, first_unknown, read_relas,
 };
-use crate::symbols::{bound_name, defined_word, is_import, strings_of, symbol_of};
+use crate::symbols::{bound_name, defined_word, strings_of, symbol_of};
 use crate::{DynError, Imports};
 use std::alloc::Global;
-use vw_bits::{DynHeader, List, Segment};
+use vw_bits::{DynHeader, List, Segment, file_offset};
 
 /// A relocation of eight bytes (gABI, "Relocation").
 #[derive(Clone, Copy, Debug, PartialEq, Eq)]
@@ -102,7 +101,7 @@ fn read_section(
     more: &[DynHeader],
 ) -> Result<Vec<Entry>, DynError>
     requires inside { AreBounded (length bytes.now) segments.now }
-    requires small { AreBounded (2 ^ 32) segments.now }
+    requires small { AreBounded (2 ^ 64) segments.now }
     ensures ok { IfOk result (λ entries. section_entries bytes.now segments.now header.now ≡ Some entries.items) }
     ensures rules { OnOk result (AllHold (section_rules bytes.now segments.now header.now more.now)) }
     ensures fault { IfErr result (Names (lowest_broken 15 (section_rules bytes.now segments.now header.now more.now))) }
@@ -130,7 +129,7 @@ fn first_header(headers: &[DynHeader]) -> Option<u64>
 
 // Rules 18 to 22: what the entries name.
 fn check_entries(segments: &[Segment], entries: &[Entry]) -> Result<Directory, DynError>
-    requires { AreBounded (2 ^ 32) segments.now }
+    requires { AreBounded (2 ^ 64) segments.now }
     ensures ok { IfOk result (λ directory. directory ≡ directory_of entries.now) }
     ensures rules { OnOk result (AllHold (entry_rules segments.now entries.now)) }
     ensures fault { IfErr result (Names (lowest_broken 18 (entry_rules segments.now entries.now))) }
@@ -151,10 +150,10 @@ fn bind(
     segments: &[Segment],
     strings: &[u8],
     symtab: Option<u64>,
-    relas: &[Rela],
+    relas: &[RelaEntry],
 ) -> Result<Dynamic, DynError>
     requires inside { AreBounded (length bytes.now) segments.now }
-    requires small { AreBounded (2 ^ 32) segments.now }
+    requires small { AreBounded (2 ^ 64) segments.now }
     requires few { length relas.now + 1 < 2 ^ 32 }
     ensures ok { OnOk result (AllHold
         (rela_rules bytes.now segments.now strings.now symtab relas.now)) }
@@ -180,10 +179,10 @@ fn resolve(
     segments: &[Segment],
     strings: &[u8],
     symtab: Option<u64>,
-    relas: &[Rela],
+    relas: &[RelaEntry],
 ) -> Result<Dynamic, DynError>
     requires inside { AreBounded (length bytes.now) segments.now }
-    requires small { AreBounded (2 ^ 32) segments.now }
+    requires small { AreBounded (2 ^ 64) segments.now }
     requires few { length relas.now + 1 < 2 ^ 32 }
     requires known { find (λ r. not (is_known r)) relas.now ≡ None }
     ensures ok { OnOk result
@@ -222,11 +221,11 @@ fn kind_of(
     segments: &[Segment],
     strings: &[u8],
     symtab: Option<u64>,
-    rela: &Rela,
+    rela: &RelaEntry,
     imports: &mut Imports,
 ) -> Result<RelKind, DynError>
     requires inside { AreBounded (length bytes.now) segments.now }
-    requires small { AreBounded (2 ^ 32) segments.now }
+    requires small { AreBounded (2 ^ 64) segments.now }
     requires few { length imports.old + 1 < 2 ^ 32 }
     requires known { is_known rela.now ≡ true }
     requires some { rela.now.kind ≢ 0 }
@@ -244,7 +243,7 @@ fn kind_of(
     let Some(symbol) = symbol_of(bytes, segments, symtab, rela.symbol) else {
         return Err(unresolved(rela));
     };
-    if is_import(&symbol) {
+    if symbol.is_import() {
         let Some(name) = bound_name(strings, rela, &symbol) else {
             return Err(unresolved(rela));
         };
@@ -257,7 +256,7 @@ fn kind_of(
     Ok(RelKind::Based(word))
 }
 
-fn unresolved(rela: &Rela) -> DynError
+fn unresolved(rela: &RelaEntry) -> DynError
     ensures { result ≡ Fault 26 rela.now.at }
 {
     DynError::Fault {

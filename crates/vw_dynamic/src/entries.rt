@@ -3,9 +3,8 @@ ghost use Rattle.std.specs.Bool.{OnTrue};
 ghost use Rattle.std.specs.List.{find};
 ghost use Rattle.vw_dynamic.specs.Entries.{entry_at, ended_entries, is_forbidden, is_single, first_repeated, offset_of, entry_list};
 
-use crate::fields::u64_at;
 use std::alloc::Global;
-use vw_bits::OutOfMemory;
+use vw_bits::{Dyn, OutOfMemory};
 
 /// An entry of the dynamic section.
 #[derive(Clone, Copy, Debug)]
@@ -32,8 +31,6 @@ const DT_FINI_ARRAYSZ: u64 = 28;
 
 const DT_RELR: u64 = 36;
 
-const ENTRY_SIZE: u64 = 16;
-
 // The entries before the first DT_NULL among `size` bytes from `start` on, or `None` where there is no DT_NULL.
 pub(crate) fn read_entries(
     alloc: Global,
@@ -45,8 +42,8 @@ pub(crate) fn read_entries(
     ensures { IfOk result (λ entries. entry_list entries ≡ ended_entries bytes.now start size) }
 {
     let mut entries = Vec::new(alloc);
-    for index in 0..size / ENTRY_SIZE {
-        let entry = entry_at(bytes, start + ENTRY_SIZE * index);
+    for index in 0..size / Dyn::SIZE {
+        let entry = entry_at(bytes, start + Dyn::SIZE * index);
         if entry.tag == DT_NULL {
             return Ok(Some(entries));
         }
@@ -60,10 +57,11 @@ fn entry_at(bytes: &[u8], at: u64) -> Entry
     requires { at + 16 ≤ length bytes.now }
     ensures { result ≡ entry_at bytes.now at }
 {
+    let entry = Dyn::read(bytes, at);
     Entry {
         at,
-        tag: u64_at(bytes, at),
-        value: u64_at(bytes, at + 8),
+        tag: entry.d_tag,
+        value: entry.d_un,
     }
 }
 

@@ -7,9 +7,7 @@ mod directory;
 mod dynamic;
 mod entries;
 mod faults;
-mod fields;
 mod imports;
-mod places;
 mod relas;
 mod symbols;
 

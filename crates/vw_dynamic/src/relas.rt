@@ -1,22 +1,21 @@
 ghost use Rattle.std.specs.Prelude.{◌≡◌, ◌+◌, ◌*◌, ◌-◌, ◌/◌, ◌≤◌, ◌^◌, ◌==◌, ◌++◌, ◌||◌, not, length, map, filter, option_copied, IfOk, OnOk};
 ghost use Rattle.std.specs.List.{find, list_any};
 ghost use Rattle.vw_bits.specs.Headers.{table};
-ghost use Rattle.vw_dynamic.specs.Bounds.{AreBounded};
+ghost use Rattle.vw_bits.specs.Bounds.{AreBounded};
 ghost use Rattle.vw_dynamic.specs.Directory.{table_offset, items_at};
 ghost use Rattle.vw_dynamic.specs.Relas.{rela_at, relas_of, is_known, is_data, is_misplaced, share_byte, shares, first_overlap, rela_offset};
 ghost use Rattle.std.specs.BTreeMap.{get};
 ghost use Rattle.std.specs.Ordering.{nat_cmp};
 
 use crate::directory::{Directory, table_offset};
-use crate::fields::u64_at;
-use crate::places::is_data;
+use bitflags::Flags;
 use std::alloc::Global;
 use std::collections::BTreeMap;
-use vw_bits::{OutOfMemory, Segment};
+use vw_bits::{OutOfMemory, Rela, Rights, Segment, is_among};
 
 /// A relocation with an addend.
 #[derive(Clone, Copy, Debug)]
-pub struct Rela {
+pub struct RelaEntry {
     /// Its file offset.
     pub at: u64,
     /// `r_offset`: the address that it changes.
@@ -39,8 +38,6 @@ pub(crate) const R_JUMP_SLOT: u32 = 7;
 
 pub(crate) const R_RELATIVE: u32 = 8;
 
-const RELA_SIZE: u64 = 24;
-
 /// A relocation table in the file.
 #[derive(Clone, Copy, Debug)]
 pub struct Table {
@@ -56,9 +53,9 @@ pub(crate) fn read_relas(
     bytes: &[u8],
     segments: &[Segment],
     directory: &Directory,
-) -> Result<Vec<Rela>, OutOfMemory>
+) -> Result<Vec<RelaEntry>, OutOfMemory>
     requires inside { AreBounded (length bytes.now) segments.now }
-    requires small { AreBounded (2 ^ 32) segments.now }
+    requires small { AreBounded (2 ^ 64) segments.now }
     ensures { IfOk result (λ relas. relas.items ≡ relas_of bytes.now segments.now directory.now) }
 {
     let first = table_at(bytes, segments, directory.rela, directory.relasz);
@@ -70,14 +67,14 @@ pub(crate) fn read_relas(
 
 fn table_at(bytes: &[u8], segments: &[Segment], address: Option<u64>, size: Option<u64>) -> Table
     requires inside { AreBounded (length bytes.now) segments.now }
-    requires small { AreBounded (2 ^ 32) segments.now }
+    requires small { AreBounded (2 ^ 64) segments.now }
     ensures items { items_at (table_offset segments.now address size) size ≡ table result.offset 24 result.count }
     ensures inside { result.offset + 24 * result.count ≤ length bytes.now }
 {
     match table_offset(segments, address, size) {
         Some(offset) => Table {
             offset,
-            count: size.unwrap_or(0) / RELA_SIZE,
+            count: size.unwrap_or(0) / Rela::SIZE,
         },
         None => Table {
             offset: 0,
@@ -86,13 +83,13 @@ fn table_at(bytes: &[u8], segments: &[Segment], address: Option<u64>, size: Opti
     }
 }
 
-fn read_table(alloc: Global, bytes: &[u8], first: Table) -> Result<Vec<Rela>, OutOfMemory>
+fn read_table(alloc: Global, bytes: &[u8], first: Table) -> Result<Vec<RelaEntry>, OutOfMemory>
     requires { first.offset + 24 * first.count ≤ length bytes.now }
     ensures { IfOk result (λ relas. relas.items ≡ map (rela_at bytes.now) (table first.offset 24 first.count)) }
 {
     let mut relas = Vec::new(alloc);
     for index in 0..first.count {
-        relas.push(rela_at(bytes, first.offset + RELA_SIZE * index))?;
+        relas.push(rela_at(bytes, first.offset + Rela::SIZE * index))?;
     }
     Ok(relas)
 }
@@ -102,14 +99,14 @@ fn append_others(
     bytes: &[u8],
     first: Table,
     second: Table,
-    relas: &mut Vec<Rela>,
+    relas: &mut Vec<RelaEntry>,
 ) -> Result<(), OutOfMemory>
     requires { second.offset + 24 * second.count ≤ length bytes.now }
     ensures { OnOk result (relas.new.items
         ≡ relas.old.items ++ map (rela_at bytes.now) (filter (λ at. not (list_any (λ other. other == at) (table first.offset 24 first.count))) (table second.offset 24 second.count))) }
 {
     for index in 0..second.count {
-        let at = second.offset + RELA_SIZE * index;
+        let at = second.offset + Rela::SIZE * index;
         if !begins_entry(first, at) {
             relas.push(rela_at(bytes, at))?;
         }
@@ -125,32 +122,32 @@ fn begins_entry(first: Table, at: u64) -> bool
         return false;
     }
     let distance = at - first.offset;
-    distance % RELA_SIZE == 0 && distance / RELA_SIZE < first.count
+    distance % Rela::SIZE == 0 && distance / Rela::SIZE < first.count
 }
 
 #[tactic(auto, unfolding(crate::specs::Relas::rela_at))]
-fn rela_at(bytes: &[u8], at: u64) -> Rela
+fn rela_at(bytes: &[u8], at: u64) -> RelaEntry
     requires { at + 24 ≤ length bytes.now }
     ensures { result ≡ rela_at bytes.now at }
 {
-    let info = u64_at(bytes, at + 8);
-    Rela {
+    let entry = Rela::read(bytes, at);
+    RelaEntry {
         at,
-        place: u64_at(bytes, at),
-        symbol: (info / 0x1_0000_0000) as u32,
-        kind: (info % 0x1_0000_0000) as u32,
-        addend: u64_at(bytes, at + 16),
+        place: entry.r_offset,
+        symbol: (entry.r_info / 0x1_0000_0000) as u32,
+        kind: (entry.r_info % 0x1_0000_0000) as u32,
+        addend: entry.r_addend,
     }
 }
 
 // Rule 23: the first relocation of another type.
-pub(crate) fn first_unknown(relas: &[Rela]) -> Option<u64>
+pub(crate) fn first_unknown(relas: &[RelaEntry]) -> Option<u64>
     ensures { result ≡ rela_offset (find (λ r. not (is_known r)) relas.now) }
 {
     relas.iter().find(|r| !is_known(r)).map(|r| r.at)
 }
 
-fn is_known(rela: &Rela) -> bool
+fn is_known(rela: &RelaEntry) -> bool
     ensures { result ≡ is_known rela.now }
 {
     matches!(
@@ -160,7 +157,7 @@ fn is_known(rela: &Rela) -> bool
 }
 
 // Rule 24: the first relocation that is not of eight bytes of data.
-pub(crate) fn first_misplaced(segments: &[Segment], relas: &[Rela]) -> Option<u64>
+pub(crate) fn first_misplaced(segments: &[Segment], relas: &[RelaEntry]) -> Option<u64>
     ensures { result ≡ rela_offset (find (is_misplaced segments.now) relas.now) }
 {
     relas
@@ -169,7 +166,7 @@ pub(crate) fn first_misplaced(segments: &[Segment], relas: &[Rela]) -> Option<u6
         .map(|r| r.at)
 }
 
-fn is_misplaced(segments: &[Segment], rela: &Rela) -> bool
+fn is_misplaced(segments: &[Segment], rela: &RelaEntry) -> bool
     ensures { result ≡ is_misplaced segments.now rela.now }
 {
     rela.kind != R_NONE && !holds_data(segments, rela.place)
@@ -181,10 +178,17 @@ fn holds_data(segments: &[Segment], place: u64) -> bool
     segments.iter().any(|s| is_data(s, place))
 }
 
+// Whether the eight bytes at an address are in the memory of a segment that is not executed.
+fn is_data(segment: &Segment, address: u64) -> bool
+    ensures { result ≡ is_data segment.now address }
+{
+    is_among(segment.vaddr, segment.memsz, address, 8) && !segment.rights.contains(Rights::X)
+}
+
 // Rule 25: the first relocation that shares a byte with one before it. Places that share no byte begin in
 // different words of eight bytes, so each is kept under its word's number, and one that shares a byte with
 // it begins in the same word or in a neighbour.
-pub(crate) fn first_overlap(alloc: Global, relas: &[Rela]) -> Result<Option<u64>, OutOfMemory>
+pub(crate) fn first_overlap(alloc: Global, relas: &[RelaEntry]) -> Result<Option<u64>, OutOfMemory>
     ensures { IfOk result (λ found. found ≡ rela_offset (first_overlap relas.now)) }
 {
     let mut places = BTreeMap::new(alloc);

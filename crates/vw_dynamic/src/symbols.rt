@@ -1,25 +1,13 @@
 ghost use Rattle.std.specs.Prelude.{◌≡◌, ◌+◌, ◌≤◌, ◌^◌, ◌==◌, ◌&&◌, ◌||◌, not, length, take, drop, Some, None, option_copied, if◌then◌else◌};
-ghost use Rattle.vw_bits.specs.Symbols.{symbol_at, symbol_type, is_defined, is_import};
-ghost use Rattle.vw_dynamic.specs.Bounds.{AreBounded};
-ghost use Rattle.vw_dynamic.specs.Targets.{strings_of, symbol_offset, symbol_of, name_of, name_at, adds_addend, defined_word};
+ghost use Rattle.vw_bits.specs.Symbols.{symbol_type, is_defined};
+ghost use Rattle.vw_bits.specs.Bounds.{AreBounded};
+ghost use Rattle.vw_dynamic.specs.Targets.{strings_of, symbol_offset, symbol_of, name_at, adds_addend, defined_word};
 
 use crate::directory::{Directory, table_offset};
-use crate::fields::{u8_at, u16_at, u32_at, u64_at};
-use crate::places::file_offset;
-use crate::relas::{R_64, Rela};
-use vw_bits::{Segment, Symbol};
-
-const SYMBOL_SIZE: u64 = 24;
+use crate::relas::{R_64, RelaEntry};
+use vw_bits::{Segment, Sym, Symbol, file_offset, short_string_at};
 
 const STT_GNU_IFUNC: u8 = 10;
-
-const SHN_UNDEF: u16 = 0;
-
-/// The last section index below SHN_LORESERVE.
-const SHN_LAST: u16 = 65_279;
-
-/// The greatest length of a name, in bytes.
-const MAX_NAME: usize = 1024;
 
 // The bytes of the string table, or none where it is not in the file.
 pub(crate) fn strings_of<'a>(
@@ -28,7 +16,7 @@ pub(crate) fn strings_of<'a>(
     directory: &Directory,
 ) -> &'a [u8]
     requires inside { AreBounded (length bytes.now) segments.now }
-    requires small { AreBounded (2 ^ 32) segments.now }
+    requires small { AreBounded (2 ^ 64) segments.now }
     ensures { result.now ≡ strings_of bytes.now segments.now directory.now }
 {
     match table_offset(segments, directory.strtab, directory.strsz) {
@@ -52,89 +40,44 @@ pub(crate) fn symbol_of(
     index: u32,
 ) -> Option<Symbol>
     requires inside { AreBounded (length bytes.now) segments.now }
-    requires small { AreBounded (2 ^ 32) segments.now }
+    requires small { AreBounded (2 ^ 64) segments.now }
     ensures { result ≡ symbol_of bytes.now segments.now symtab index }
 {
     if index == 0 {
         return None;
     }
     let at = symbol_offset(segments, symtab, index)?;
-    Some(symbol_at(bytes, at))
+    Some(Symbol::read(bytes, at))
 }
 
 // The file offset of the symbol with an index. An address past the last word is in no segment.
 fn symbol_offset(segments: &[Segment], symtab: Option<u64>, index: u32) -> Option<u64>
-    requires { AreBounded (2 ^ 32) segments.now }
+    requires { AreBounded (2 ^ 64) segments.now }
     ensures { result ≡ symbol_offset segments.now symtab index }
 {
     match symtab {
         None => None,
-        Some(first) => match first.checked_add(SYMBOL_SIZE * index as u64) {
+        Some(first) => match first.checked_add(Sym::SIZE * index as u64) {
             None => None,
-            Some(address) => file_offset(segments, address, SYMBOL_SIZE),
+            Some(address) => file_offset(segments, address, Sym::SIZE),
         },
     }
-}
-
-#[tactic(auto, unfolding(vw_bits::specs::Symbols::symbol_at))]
-fn symbol_at(bytes: &[u8], at: u64) -> Symbol
-    requires { at + 24 ≤ length bytes.now }
-    ensures { result ≡ symbol_at bytes.now at }
-{
-    Symbol {
-        name: u32_at(bytes, at),
-        info: u8_at(bytes, at + 4),
-        shndx: u16_at(bytes, at + 6),
-        value: u64_at(bytes, at + 8),
-        size: u64_at(bytes, at + 16),
-        at,
-    }
-}
-
-pub(crate) fn is_import(symbol: &Symbol) -> bool
-    ensures { result ≡ is_import symbol.now }
-{
-    symbol.shndx == SHN_UNDEF
-}
-
-fn is_defined(symbol: &Symbol) -> bool
-    ensures { result ≡ is_defined symbol.now }
-{
-    1 <= symbol.shndx && symbol.shndx <= SHN_LAST
 }
 
 // The name of 1 to 1,024 bytes at an offset of the string table, if it ends there.
 fn name_at(strings: &[u8], at: u32) -> Option<&[u8]>
     ensures { option_copied result ≡ name_at strings.now at }
 {
-    if at as usize > strings.len() {
-        return None;
-    }
-    name_of(&strings[at as usize..])
-}
-
-// The name that bytes begin with: those before the first zero byte.
-fn name_of(rest: &[u8]) -> Option<&[u8]>
-    ensures { option_copied result ≡ name_of rest.now }
-{
-    for index in 0..rest.len().min(MAX_NAME + 1) {
-        if rest[index] == 0 {
-            return if index == 0 {
-                None
-            } else {
-                Some(&rest[..index])
-            };
-        }
-    }
-    None
+    let name = short_string_at(strings, at)?;
+    if name.is_empty() { None } else { Some(name) }
 }
 
 // Rule 26: what a relocation on a symbol that is no import adds to the load address, if it resolves.
-pub(crate) fn defined_word(rela: &Rela, symbol: &Symbol) -> Option<u64>
+pub(crate) fn defined_word(rela: &RelaEntry, symbol: &Symbol) -> Option<u64>
     ensures { result ≡ (if not (symbol_type symbol.now == 10) && is_defined symbol.now
         then Some (defined_word rela.now symbol.now) else None) }
 {
-    if is_indirect(symbol) || !is_defined(symbol) {
+    if is_indirect(symbol) || !symbol.is_defined() {
         return None;
     }
     if rela.kind == R_64 {
@@ -145,7 +88,11 @@ pub(crate) fn defined_word(rela: &Rela, symbol: &Symbol) -> Option<u64>
 }
 
 // Rule 26: the name of the import that a relocation on one binds, if it resolves.
-pub(crate) fn bound_name<'a>(strings: &'a [u8], rela: &Rela, symbol: &Symbol) -> Option<&'a [u8]>
+pub(crate) fn bound_name<'a>(
+    strings: &'a [u8],
+    rela: &RelaEntry,
+    symbol: &Symbol,
+) -> Option<&'a [u8]>
     ensures { option_copied result ≡ (if not (symbol_type symbol.now == 10)
         && (not (adds_addend rela.now) || rela.now.addend == 0)
         then name_at strings.now symbol.now.name else None) }
@@ -160,5 +107,5 @@ pub(crate) fn bound_name<'a>(strings: &'a [u8], rela: &Rela, symbol: &Symbol) ->
 fn is_indirect(symbol: &Symbol) -> bool
     ensures { result ≡ (symbol_type symbol.now == 10) }
 {
-    symbol.info % 16 == STT_GNU_IFUNC
+    symbol.symbol_type() == STT_GNU_IFUNC
 }

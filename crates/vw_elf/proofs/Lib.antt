@@ -1,1 +1,1 @@
-pub mod FaultLemmas
+pub mod KeptLemmas

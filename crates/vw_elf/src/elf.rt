@@ -34,15 +34,15 @@ impl Elf {
         ensures symbols { IfOk result (λ elf. elf.symbols ≡ symbol_sections bytes.now) }
         ensures fault { IfErr result (Names (header_fault bytes.now)) }
     {
-        check_header(bytes)?;
-        let segments = read_segments(alloc, bytes).map_err(ElfError::Memory)?;
+        let header = check_header(bytes)?;
+        let segments = read_segments(alloc, bytes, &header).map_err(ElfError::Memory)?;
         check_segments(segments.as_slice(), bytes.len() as u64)?;
-        refuse(13, broken_section_table(bytes))?;
-        refuse(14, broken_symbol_section(bytes))?;
+        refuse(13, broken_section_table(bytes, &header))?;
+        refuse(14, broken_symbol_section(bytes, &header))?;
         Ok(Elf {
             segments,
-            dynamics: read_dynamics(alloc, bytes).map_err(ElfError::Memory)?,
-            symbols: read_symbol_sections(alloc, bytes).map_err(ElfError::Memory)?,
+            dynamics: read_dynamics(alloc, bytes, &header).map_err(ElfError::Memory)?,
+            symbols: read_symbol_sections(alloc, bytes, &header).map_err(ElfError::Memory)?,
         })
     }
 }

@@ -1,20 +1,16 @@
-ghost use Rattle.std.specs.Prelude.{◌≡◌, ◌+◌, ◌*◌, ◌≤◌, ◌&&◌, nat_le, length, IfErr, OnOk};
+ghost use Rattle.std.specs.Prelude.{◌≡◌, ◌+◌, ◌*◌, ◌≤◌, ◌&&◌, nat_le, length, IfOk, IfErr, OnOk};
 ghost use Rattle.vw_bits.specs.Headers.{e_phnum, e_phoff};
 ghost use Rattle.vw_bits.specs.Rules.{lowest_broken, AllHold};
 ghost use Rattle.vw_bits.specs.HeaderRules.{first_difference, header_rules};
 ghost use Rattle.vw_elf.specs.Faults.{Names};
+ghost use Rattle.vw_elf.specs.FileHeaders.{IsHeaderOf};
 
 use crate::ElfError;
 use crate::faults::{refuse, unless};
-use crate::fields::{u16_at, u64_at};
+use vw_bits::{FileHeader, ProgramHeader};
 
 /// The greatest length of a module, in bytes.
 const MAX_LEN: u64 = 67_108_864;
-
-/// The sizes of the ELF64 header and of a program header.
-const HEADER_SIZE: u64 = 64;
-
-const PROGRAM_HEADER_SIZE: u64 = 56;
 
 const MAX_PROGRAM_HEADERS: u16 = 64;
 
@@ -27,31 +23,42 @@ const ET_DYN: u16 = 3;
 
 const EM_X86_64: u16 = 62;
 
-// Rules 1 to 9: the length and the header.
-pub(crate) fn check_header(bytes: &[u8]) -> Result<(), ElfError>
+/// Where the header has the fields that rules speak of.
+const E_TYPE: u64 = 16;
+
+const E_MACHINE: u64 = 18;
+
+pub(crate) const E_PHOFF: u64 = 32;
+
+pub(crate) const E_SHOFF: u64 = 40;
+
+const E_PHENTSIZE: u64 = 54;
+
+const E_PHNUM: u64 = 56;
+
+pub(crate) const E_SHENTSIZE: u64 = 58;
+
+// Rules 1 to 9: the length and the header, which is read.
+pub(crate) fn check_header(bytes: &[u8]) -> Result<FileHeader, ElfError>
+    ensures header { IfOk result (IsHeaderOf bytes.now) }
     ensures ok { OnOk result (AllHold (header_rules bytes.now)) }
     ensures fault { IfErr result (Names (lowest_broken 1 (header_rules bytes.now))) }
 {
     let len = bytes.len() as u64;
     refuse(1, unless(len <= MAX_LEN, MAX_LEN))?;
-    refuse(2, unless(HEADER_SIZE <= len, len))?;
+    refuse(2, unless(FileHeader::SIZE <= len, len))?;
     refuse(3, first_difference(bytes, 0, &MAGIC))?;
     refuse(4, first_difference(bytes, 4, &CLASS_AND_DATA))?;
-    refuse(5, unless(u16_at(bytes, 16) == ET_DYN, 16))?;
-    refuse(6, unless(u16_at(bytes, 18) == EM_X86_64, 18))?;
-    refuse(
-        7,
-        unless(u16_at(bytes, 54) as u64 == PROGRAM_HEADER_SIZE, 54),
-    )?;
-    let count = u16_at(bytes, 56);
-    refuse(8, unless(is_header_count(count), 56))?;
-    refuse(
-        9,
-        unless(
-            table_is_inside(u64_at(bytes, 32), PROGRAM_HEADER_SIZE, count, len),
-            32,
-        ),
-    )
+    let header = FileHeader::read(bytes);
+    refuse(5, unless(header.e_type == ET_DYN, E_TYPE))?;
+    refuse(6, unless(header.e_machine == EM_X86_64, E_MACHINE))?;
+    let is_size = header.e_phentsize as u64 == ProgramHeader::SIZE;
+    refuse(7, unless(is_size, E_PHENTSIZE))?;
+    let count = header.e_phnum;
+    refuse(8, unless(is_header_count(count), E_PHNUM))?;
+    let is_inside = table_is_inside(header.e_phoff, ProgramHeader::SIZE, count, len);
+    refuse(9, unless(is_inside, E_PHOFF))?;
+    Ok(header)
 }
 
 fn is_header_count(count: u16) -> bool

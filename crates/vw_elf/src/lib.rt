@@ -5,7 +5,6 @@
 
 mod elf;
 mod faults;
-mod fields;
 mod header;
 mod sections;
 mod segments;

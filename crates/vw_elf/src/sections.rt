@@ -1,13 +1,13 @@
-ghost use Rattle.std.specs.Prelude.{◌≡◌, ◌+◌, ◌*◌, ◌≤◌, ◌<◌, ◌&&◌, not, length, None, IfOk};
-ghost use Rattle.vw_bits.specs.Headers.{sh_link, e_shnum};
-ghost use Rattle.vw_bits.specs.HeaderRules.{is_symbol_section, section_inside, has_strings, symbol_section_fits, section_table_rule, symbol_section_rule, SectionsInside};
+ghost use Rattle.std.specs.Prelude.{◌≡◌, ◌+◌, ◌%◌, ◌≤◌, ◌<◌, ◌&&◌, ◌||◌, ◌==◌, not, true, nat_le, nat_lt, length, Some, None, if◌then◌else◌, IfOk};
+ghost use Rattle.vw_bits.specs.Headers.{sh_type, sh_link, e_shnum, section_header};
+ghost use Rattle.vw_bits.specs.HeaderRules.{is_symbol_section, section_inside, symbol_section_fits, section_table_rule, symbol_section_rule, SectionsInside};
+ghost use Rattle.vw_elf.specs.FileHeaders.{IsHeaderOf};
 ghost use Rattle.vw_elf.specs.SymbolSections.{symbol_section_at, symbol_sections};
 
 use crate::faults::unless;
-use crate::fields::{u16_at, u32_at, u64_at};
-use crate::header::{is_inside, table_is_inside};
+use crate::header::{E_SHENTSIZE, E_SHOFF, is_inside, table_is_inside};
 use std::alloc::Global;
-use vw_bits::{List, OutOfMemory};
+use vw_bits::{FileHeader, List, OutOfMemory, SectionHeader, Sym};
 
 /// A section of symbols (gABI, "Symbol Table": SHT_SYMTAB or SHT_DYNSYM) and its string table.
 #[derive(Clone, Copy, Debug, PartialEq, Eq, Hash)]
@@ -28,136 +28,129 @@ const SHT_STRTAB: u32 = 3;
 
 const SHT_DYNSYM: u32 = 11;
 
-const SECTION_HEADER_SIZE: u64 = 64;
-
-const SYMBOL_SIZE: u64 = 24;
-
-/// Where the header has e_shoff and e_shentsize.
-const E_SHOFF: u64 = 40;
-
-const E_SHENTSIZE: u64 = 58;
-
 // Rule 13: the section headers are in the file.
 #[tactic(auto, unfolding(vw_bits::specs::HeaderRules::section_table_rule))]
-pub(crate) fn broken_section_table(bytes: &[u8]) -> Option<u64>
-    requires { 64 ≤ length bytes.now }
+pub(crate) fn broken_section_table(bytes: &[u8], header: &FileHeader) -> Option<u64>
+    requires { IsHeaderOf bytes.now header.now }
     ensures { result ≡ section_table_rule bytes.now }
 {
-    let count = u16_at(bytes, 60);
+    let count = header.e_shnum;
     if count == 0 {
         return None;
     }
-    if u16_at(bytes, E_SHENTSIZE) as u64 != SECTION_HEADER_SIZE {
+    if header.e_shentsize as u64 != SectionHeader::SIZE {
         return Some(E_SHENTSIZE);
     }
-    let table = u64_at(bytes, E_SHOFF);
     let len = bytes.len() as u64;
     unless(
-        table_is_inside(table, SECTION_HEADER_SIZE, count, len),
+        table_is_inside(header.e_shoff, SectionHeader::SIZE, count, len),
         E_SHOFF,
     )
 }
 
 // Rule 14: the first section of symbols that is not whole.
-pub(crate) fn broken_symbol_section(bytes: &[u8]) -> Option<u64>
-    requires header { 64 ≤ length bytes.now }
+pub(crate) fn broken_symbol_section(bytes: &[u8], header: &FileHeader) -> Option<u64>
+    requires header { IsHeaderOf bytes.now header.now }
     requires table { SectionsInside bytes.now }
     ensures { result ≡ symbol_section_rule bytes.now }
 {
-    let table = u64_at(bytes, E_SHOFF);
-    for index in 0..u16_at(bytes, 60) {
-        let header = table + SECTION_HEADER_SIZE * index as u64;
-        if is_broken(bytes, header) {
-            return Some(header);
+    for index in 0..header.e_shnum {
+        let at = header.e_shoff + SectionHeader::SIZE * index as u64;
+        if is_broken(bytes, header, at) {
+            return Some(at);
         }
     }
     None
 }
 
-fn is_broken(bytes: &[u8], header: u64) -> bool
-    requires header { header + 64 ≤ length bytes.now }
+#[tactic(auto, unfolding(vw_bits::specs::HeaderRules::symbol_section_fits, vw_bits::specs::HeaderRules::has_strings))]
+fn is_broken(bytes: &[u8], header: &FileHeader, at: u64) -> bool
+    requires header { IsHeaderOf bytes.now header.now }
+    requires inside { at + 64 ≤ length bytes.now }
     requires table { SectionsInside bytes.now }
-    ensures { result ≡ (is_symbol_section bytes.now header && not (symbol_section_fits bytes.now header)) }
+    ensures { result ≡ (is_symbol_section bytes.now at && not (symbol_section_fits bytes.now at)) }
 {
-    holds_symbols(bytes, header) && !fits(bytes, header)
+    let section = SectionHeader::read(bytes, at);
+    holds_symbols(&section)
+        && !(has_whole_entries(&section)
+            && section_is_inside(bytes, &section)
+            && has_strings(bytes, header, section.sh_link))
 }
 
-fn holds_symbols(bytes: &[u8], header: u64) -> bool
-    requires { header + 64 ≤ length bytes.now }
-    ensures { result ≡ is_symbol_section bytes.now header }
+fn holds_symbols(section: &SectionHeader) -> bool
+    ensures { result ≡ (section.now.sh_type == 2 || section.now.sh_type == 11) }
 {
-    let kind = u32_at(bytes, header + 4);
-    kind == SHT_SYMTAB || kind == SHT_DYNSYM
+    section.sh_type == SHT_SYMTAB || section.sh_type == SHT_DYNSYM
 }
 
-#[tactic(auto, unfolding(vw_bits::specs::HeaderRules::symbol_section_fits))]
-fn fits(bytes: &[u8], header: u64) -> bool
-    requires header { header + 64 ≤ length bytes.now }
+fn has_whole_entries(section: &SectionHeader) -> bool
+    ensures { result ≡ (section.now.sh_entsize == 24 && section.now.sh_size % 24 == 0) }
+{
+    section.sh_entsize == Sym::SIZE && section.sh_size % Sym::SIZE == 0
+}
+
+fn section_is_inside(bytes: &[u8], section: &SectionHeader) -> bool
+    ensures { result ≡ nat_le (section.now.sh_offset + section.now.sh_size) (length bytes.now) }
+{
+    is_inside(section.sh_offset, section.sh_size, bytes.len() as u64)
+}
+
+// Whether `link` is the index of a string table that is in the file.
+fn has_strings(bytes: &[u8], header: &FileHeader, link: u32) -> bool
+    requires header { IsHeaderOf bytes.now header.now }
     requires table { SectionsInside bytes.now }
-    ensures { result ≡ symbol_section_fits bytes.now header }
+    ensures { result ≡ (nat_lt link (e_shnum bytes.now)
+        && sh_type bytes.now (section_header bytes.now link) == 3
+        && section_inside bytes.now (section_header bytes.now link)) }
 {
-    u64_at(bytes, header + 56) == SYMBOL_SIZE
-        && u64_at(bytes, header + 32) % SYMBOL_SIZE == 0
-        && section_is_inside(bytes, header)
-        && has_strings(bytes, header)
-}
-
-fn section_is_inside(bytes: &[u8], header: u64) -> bool
-    requires { header + 64 ≤ length bytes.now }
-    ensures { result ≡ section_inside bytes.now header }
-{
-    let len = bytes.len() as u64;
-    is_inside(u64_at(bytes, header + 24), u64_at(bytes, header + 32), len)
-}
-
-#[tactic(auto, unfolding(vw_bits::specs::HeaderRules::has_strings))]
-fn has_strings(bytes: &[u8], header: u64) -> bool
-    requires header { header + 64 ≤ length bytes.now }
-    requires table { SectionsInside bytes.now }
-    ensures { result ≡ has_strings bytes.now header }
-{
-    let link = u32_at(bytes, header + 40);
-    if link >= u16_at(bytes, 60) as u32 {
+    if link >= header.e_shnum as u32 {
         return false;
     }
-    let strings = u64_at(bytes, E_SHOFF) + SECTION_HEADER_SIZE * link as u64;
-    u32_at(bytes, strings + 4) == SHT_STRTAB && section_is_inside(bytes, strings)
+    let at = header.e_shoff + SectionHeader::SIZE * link as u64;
+    let strings = SectionHeader::read(bytes, at);
+    strings.sh_type == SHT_STRTAB && section_is_inside(bytes, &strings)
 }
 
 // The sections of symbols, in the order of their headers.
 pub(crate) fn read_symbol_sections(
     alloc: Global,
     bytes: &[u8],
+    header: &FileHeader,
 ) -> Result<List<SymbolSection>, OutOfMemory>
-    requires header { 64 ≤ length bytes.now }
+    requires header { IsHeaderOf bytes.now header.now }
     requires table { SectionsInside bytes.now }
     requires whole { symbol_section_rule bytes.now ≡ None }
     ensures { IfOk result (λ sections. sections ≡ symbol_sections bytes.now) }
 {
-    let table = u64_at(bytes, E_SHOFF);
     let mut sections = List::new(alloc);
-    for index in 0..u16_at(bytes, 60) {
-        let header = table + SECTION_HEADER_SIZE * index as u64;
-        if holds_symbols(bytes, header) {
-            sections.push(symbol_section_at(bytes, header))?;
+    for index in 0..header.e_shnum {
+        let at = header.e_shoff + SectionHeader::SIZE * index as u64;
+        if let Some(section) = symbol_section_at(bytes, header, at) {
+            sections.push(section)?;
         }
     }
     Ok(sections)
 }
 
+// The section that a section header describes, where it is one of symbols.
 #[tactic(auto, unfolding(crate::specs::SymbolSections::symbol_section_at))]
-fn symbol_section_at(bytes: &[u8], header: u64) -> SymbolSection
-    requires header { header + 64 ≤ length bytes.now }
+fn symbol_section_at(bytes: &[u8], header: &FileHeader, at: u64) -> Option<SymbolSection>
+    requires header { IsHeaderOf bytes.now header.now }
+    requires inside { at + 64 ≤ length bytes.now }
     requires table { SectionsInside bytes.now }
-    requires link { sh_link bytes.now header < e_shnum bytes.now }
-    ensures { result ≡ symbol_section_at bytes.now header }
+    requires link { is_symbol_section bytes.now at ≡ true → sh_link bytes.now at < e_shnum bytes.now }
+    ensures { result ≡ (if is_symbol_section bytes.now at then Some (symbol_section_at bytes.now at) else None) }
 {
-    let link = u32_at(bytes, header + 40) as u64;
-    let strings = u64_at(bytes, E_SHOFF) + SECTION_HEADER_SIZE * link;
-    SymbolSection {
-        offset: u64_at(bytes, header + 24),
-        count: u64_at(bytes, header + 32) / SYMBOL_SIZE,
-        strings_at: u64_at(bytes, strings + 24),
-        strings_size: u64_at(bytes, strings + 32),
+    let section = SectionHeader::read(bytes, at);
+    if !holds_symbols(&section) {
+        return None;
     }
+    let strings_header = header.e_shoff + SectionHeader::SIZE * section.sh_link as u64;
+    let strings = SectionHeader::read(bytes, strings_header);
+    Some(SymbolSection {
+        offset: section.sh_offset,
+        count: section.sh_size / Sym::SIZE,
+        strings_at: strings.sh_offset,
+        strings_size: strings.sh_size,
+    })
 }

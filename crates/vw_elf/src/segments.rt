@@ -1,91 +1,100 @@
-ghost use Rattle.std.specs.Prelude.{◌≡◌, ◌+◌, ◌*◌, ◌≤◌, ◌==◌, length, not, Some, if◌then◌else◌, IfOk, IfErr, OnOk};
+ghost use Rattle.std.specs.Prelude.{◌≡◌, ◌+◌, ◌*◌, ◌≤◌, ◌==◌, length, not, Some, None, if◌then◌else◌, IfOk, IfErr, OnOk};
 ghost use Rattle.std.specs.List.{find, list_any};
 ghost use Rattle.vw_bits.specs.Headers.{p_type, e_phnum, e_phoff, segment_at, segments_of, dyn_header_at, dynamics_of, program_headers};
 ghost use Rattle.vw_bits.specs.Rules.{lowest_broken, AllHold};
 ghost use Rattle.vw_bits.specs.HeaderRules.{segment_fits, segments_clash, header_of, has_no_segment, first_page, last_page, first_clash, is_writable_code, segment_rules};
 ghost use Rattle.vw_elf.specs.Faults.{Names};
+ghost use Rattle.vw_elf.specs.FileHeaders.{IsHeaderOf};
 
 use crate::ElfError;
 use crate::faults::refuse;
-use crate::fields::{u16_at, u32_at, u64_at};
-use crate::header::is_inside;
+use crate::header::{E_PHOFF, is_inside};
 use bitflags::Flags;
 use std::alloc::Global;
-use vw_bits::{DynHeader, List, OutOfMemory, Rights, Segment};
+use vw_bits::{DynHeader, FileHeader, List, OutOfMemory, ProgramHeader, Rights, Segment};
 
 const PT_LOAD: u32 = 1;
 
 const PT_DYNAMIC: u32 = 2;
-
-const PROGRAM_HEADER_SIZE: u64 = 56;
 
 /// The highest address at which a segment's memory may end.
 const MAX_ADDRESS: u64 = 0x8000_0000;
 
 const PAGE_SIZE: u64 = 4096;
 
-/// Where the header has e_phoff, which a file without a segment is refused at.
-const E_PHOFF: u64 = 32;
-
 // The segments, in the order of their headers.
-pub(crate) fn read_segments(alloc: Global, bytes: &[u8]) -> Result<List<Segment>, OutOfMemory>
-    requires header { 64 ≤ length bytes.now }
+pub(crate) fn read_segments(
+    alloc: Global,
+    bytes: &[u8],
+    header: &FileHeader,
+) -> Result<List<Segment>, OutOfMemory>
+    requires header { IsHeaderOf bytes.now header.now }
     requires table { e_phoff bytes.now + 56 * e_phnum bytes.now ≤ length bytes.now }
     ensures { IfOk result (λ segments. segments ≡ segments_of bytes.now) }
 {
-    let table = u64_at(bytes, 32);
     let mut segments = List::new(alloc);
-    for index in 0..u16_at(bytes, 56) {
-        let header = table + PROGRAM_HEADER_SIZE * index as u64;
-        if u32_at(bytes, header) == PT_LOAD {
-            segments.push(segment_at(bytes, header))?;
+    for index in 0..header.e_phnum {
+        let at = header.e_phoff + ProgramHeader::SIZE * index as u64;
+        if let Some(segment) = segment_at(bytes, at) {
+            segments.push(segment)?;
         }
     }
     Ok(segments)
 }
 
 #[tactic(auto, unfolding(vw_bits::specs::Headers::segment_at))]
-fn segment_at(bytes: &[u8], header: u64) -> Segment
-    requires { header + 56 ≤ length bytes.now }
-    ensures { result ≡ segment_at bytes.now header }
+fn segment_at(bytes: &[u8], at: u64) -> Option<Segment>
+    requires { at + 56 ≤ length bytes.now }
+    ensures { result ≡ (if p_type bytes.now at == 1 then Some (segment_at bytes.now at) else None) }
 {
-    Segment {
-        offset: u64_at(bytes, header + 8),
-        vaddr: u64_at(bytes, header + 16),
-        filesz: u64_at(bytes, header + 32),
-        memsz: u64_at(bytes, header + 40),
-        rights: Rights::from_bits_retain((u32_at(bytes, header + 4) % 8) as u8),
-        header_at: header,
+    let header = ProgramHeader::read(bytes, at);
+    if header.p_type != PT_LOAD {
+        return None;
     }
+    Some(Segment {
+        offset: header.p_offset,
+        vaddr: header.p_vaddr,
+        filesz: header.p_filesz,
+        memsz: header.p_memsz,
+        rights: Rights::from_bits_retain((header.p_flags % 8) as u8),
+        header_at: at,
+    })
 }
 
 // The headers of type PT_DYNAMIC, in order.
-pub(crate) fn read_dynamics(alloc: Global, bytes: &[u8]) -> Result<List<DynHeader>, OutOfMemory>
-    requires header { 64 ≤ length bytes.now }
+pub(crate) fn read_dynamics(
+    alloc: Global,
+    bytes: &[u8],
+    header: &FileHeader,
+) -> Result<List<DynHeader>, OutOfMemory>
+    requires header { IsHeaderOf bytes.now header.now }
     requires table { e_phoff bytes.now + 56 * e_phnum bytes.now ≤ length bytes.now }
     ensures { IfOk result (λ dynamics. dynamics ≡ dynamics_of bytes.now) }
 {
-    let table = u64_at(bytes, 32);
     let mut dynamics = List::new(alloc);
-    for index in 0..u16_at(bytes, 56) {
-        let header = table + PROGRAM_HEADER_SIZE * index as u64;
-        if u32_at(bytes, header) == PT_DYNAMIC {
-            dynamics.push(dyn_header_at(bytes, header))?;
+    for index in 0..header.e_phnum {
+        let at = header.e_phoff + ProgramHeader::SIZE * index as u64;
+        if let Some(dynamic) = dyn_header_at(bytes, at) {
+            dynamics.push(dynamic)?;
         }
     }
     Ok(dynamics)
 }
 
 #[tactic(auto, unfolding(vw_bits::specs::Headers::dyn_header_at))]
-fn dyn_header_at(bytes: &[u8], header: u64) -> DynHeader
-    requires { header + 56 ≤ length bytes.now }
-    ensures { result ≡ dyn_header_at bytes.now header }
+fn dyn_header_at(bytes: &[u8], at: u64) -> Option<DynHeader>
+    requires { at + 56 ≤ length bytes.now }
+    ensures { result ≡ (if p_type bytes.now at == 2 then Some (dyn_header_at bytes.now at) else None) }
 {
-    DynHeader {
-        vaddr: u64_at(bytes, header + 16),
-        filesz: u64_at(bytes, header + 32),
-        header_at: header,
+    let header = ProgramHeader::read(bytes, at);
+    if header.p_type != PT_DYNAMIC {
+        return None;
     }
+    Some(DynHeader {
+        vaddr: header.p_vaddr,
+        filesz: header.p_filesz,
+        header_at: at,
+    })
 }
 
 // Rules 10 to 12, for the segments of a file of `len` bytes.

@@ -1,96 +1,9 @@
--- The first item that passes a test, and relations between the items of a list.
-use Rattle.std.proofs.Common.{◌≡◌, ℕ, suc, ◌<◌, ◌&&◌, ◌||◌, ◌++◌, Bool, true, false, cond, List, [], ◌∷◌, map, take, drop, drop-cons, length, get_or, Option, Some, None, is_some, refl, sym, ap, ◌∙◌, subst, append_assoc}
+-- Relations between the items of a list.
+use Rattle.std.proofs.Common.{◌≡◌, ◌&&◌, ◌||◌, ◌++◌, Bool, true, false, cond, List, [], ◌∷◌, map, Some, None, refl, sym, ap, ◌∙◌, append_assoc}
 use Rattle.std.specs.List.{find, filter, list_any, AllByRecursion}
-use Rattle.std.proofs.lemmas.Bool.{false≢true}
-use Rattle.std.proofs.lemmas.List.{take-append-drop}
 use Rattle.vw_bits.specs.Rules.{each_after, with_earlier}
+use Rattle.vw_bits.proofs.ListLemmas.{passed, found_step, find-holds}
 use Rattle.vw_image.specs.Bounds.{Pairwise}
-
-pub not_true : (b : Bool) → (b ≡ true → ⊥) → b ≡ false
-not_true true out = absurd (out refl)
-not_true false out = refl
-
-pub or_left : (a b : Bool) → (a || b) ≡ false → a ≡ false
-or_left true b none = cc
-or_left false b none = refl
-
-pub or_right : (a b : Bool) → (a || b) ≡ false → b ≡ false
-or_right true b none = cc
-or_right false b none = none
-
-pub or_true : (b : Bool) → (b || true) ≡ true
-or_true true = refl
-or_true false = refl
-
-pub and_left : (a b : Bool) → (a && b) ≡ true → a ≡ true
-and_left true b both = refl
-and_left false b both = cc
-
-pub and_right : (a b : Bool) → (a && b) ≡ true → b ≡ true
-and_right true b both = both
-and_right false b both = cc
-
-passed : {X : Type 0} (x : X) (rest : Option X) (passes : Bool) → cond passes (Some x) rest ≡ None → (passes ≡ false) × (rest ≡ None)
-passed x rest true none = cc
-passed x rest false none = (refl, none)
-
--- the first that passes is this one, or it is found behind it
-found_step : {X : Type 0} (Q : X → Type 0) (p : X → Bool) (y x : X) (rest : Option X) (passes : Bool) → p y ≡ passes → (p y ≡ true → Q y) → (p y ≡ false → rest ≡ Some x → Q x) → cond passes (Some y) rest ≡ Some x → Q x
-found_step Q p y x rest true is here behind found =
-    let same : y ≡ x = cc in
-    subst Q same (here is)
-found_step Q p y x rest false is here behind found = behind is found
-
--- what is found passes
-pub find-passes : {X : Type 0} (p : X → Bool) (xs : List X) (x : X) → find p xs ≡ Some x → p x ≡ true
-find-passes p [] x found = cc
-find-passes p (y ∷ ys) x found =
-    found_step (λ z. p z ≡ true) p y x (find p ys) (p y) refl (λ is. is) (λ _ is. find-passes p ys x is) found
-
--- what holds of each holds of the one that is found
-pub find-holds : {X : Type 0} (P : X → Type 0) (p : X → Bool) (xs : List X) (x : X) → AllByRecursion P xs → find p xs ≡ Some x → P x
-find-holds P p [] x all found = cc
-find-holds P p (y ∷ ys) x all found =
-    found_step P p y x (find p ys) (p y) refl (λ _. all.0) (λ _ is. find-holds P p ys x all.1 is) found
-
--- one that is found is one that passes another test
-pub any-from_find : {X : Type 0} (p q : X → Bool) (xs : List X) (x : X) → find p xs ≡ Some x → q x ≡ true → list_any q xs ≡ true
-any-from_find p q [] x found passes = cc
-any-from_find p q (y ∷ ys) x found passes =
-    found_step (λ z. q z ≡ true → (q y || list_any q ys) ≡ true) p y x (find p ys) (p y) refl
-    (λ _ here. rw here refl)
-    (λ _ is there. rw (any-from_find p q ys x is there) (or_true (q y)))
-    found passes
-
-some_step : {X : Type 0} (x : X) (rest : Option X) (passes : Bool) → is_some (cond passes (Some x) rest) ≡ (passes || is_some rest)
-some_step x rest true = refl
-some_step x rest false = refl
-
-pub find-any : {X : Type 0} (p : X → Bool) (xs : List X) → is_some (find p xs) ≡ list_any p xs
-find-any p [] = refl
-find-any p (x ∷ xs) = some_step x (find p xs) (p x) ∙ ap (λ (b : Bool). p x || b) (find-any p xs)
-
--- none is found where none passes a weaker test
-pub find-none : {X : Type 0} (p q : X → Bool) (xs : List X) → ((x : X) → p x ≡ true → q x ≡ true) → list_any q xs ≡ false → find p xs ≡ None
-find-none p q [] weaker none = refl
-find-none p q (x ∷ xs) weaker none =
-    let here : p x ≡ false = not_true (p x) (λ is. false≢true (sym (or_left (q x) (list_any q xs) none) ∙ weaker x is)) in
-    rw here (find-none p q xs weaker (or_right (q x) (list_any q xs) none))
-
--- none that passes is among those of which a fact holds that rules it out
-pub find-ruled_out : {X : Type 0} (P : X → Type 0) (p : X → Bool) (xs : List X) → AllByRecursion P xs → ((x : X) → P x → p x ≡ false) → find p xs ≡ None
-find-ruled_out P p [] all out = refl
-find-ruled_out P p (x ∷ xs) all out = rw (out x all.0) (find-ruled_out P p xs all.1 out)
-
-pub find_none-All : {X : Type 0} (p : X → Bool) (xs : List X) → find p xs ≡ None → AllByRecursion (λ x. p x ≡ false) xs
-find_none-All p [] none = tt
-find_none-All p (x ∷ xs) none =
-    let both = passed x (find p xs) (p x) none in
-    (both.0, find_none-All p xs both.1)
-
-pub All-weaker : {X : Type 0} (P Q : X → Type 0) (xs : List X) → ((x : X) → P x → Q x) → AllByRecursion P xs → AllByRecursion Q xs
-All-weaker P Q [] weaker all = tt
-All-weaker P Q (x ∷ xs) weaker all = (weaker x all.0, All-weaker P Q xs weaker all.1)
 
 -- of two tests that a list's items pass one at most of any two of them, both find the same item
 pub find-unique : {X : Type 0} (R : X → X → Type 0) (p q : X → Bool) (xs : List X) (x : X) → Pairwise R xs → ((y : X) → R y x → q y ≡ false) → find p xs ≡ Some x → q x ≡ true → find q xs ≡ Some x
@@ -170,7 +83,3 @@ kept_all P x rest false here all = all
 pub All-filter : {X : Type 0} (P : X → Type 0) (p : X → Bool) (xs : List X) → AllByRecursion P xs → AllByRecursion P (filter p xs)
 All-filter P p [] all = tt
 All-filter P p (x ∷ xs) all = kept_all P x (filter p xs) (p x) all.0 (All-filter P p xs all.1)
-
--- a list split at an item
-pub split_at : {X : Type 0} (xs : List X) (i : ℕ) (d : X) → i < length xs → xs ≡ take i xs ++ get_or xs i d ∷ drop (suc i) xs
-split_at xs i d inside = sym (take-append-drop i xs) ∙ ap (λ (ys : List _). take i xs ++ ys) (drop-cons xs i d inside)

@@ -13,7 +13,8 @@ use Rattle.vw_dynamic.specs.declared.dynamic.RelKind.TheVariants.{Based}
 use Rattle.vw_image.specs.Image.{shares, touches}
 use Rattle.vw_image.specs.Index.{kind_at, IsIndex}
 use Rattle.vw_image.specs.Bounds.{AreSeparate, AllSeparate}
-use Rattle.vw_image.proofs.Lists.{not_true, find-ruled_out, Pairwise-before, split_at, or_true}
+use Rattle.vw_bits.proofs.ListLemmas.{not_true, find-ruled_out, split_at, or_true}
+use Rattle.vw_image.proofs.Lists.{Pairwise-before}
 
 abbrev pub blank : Relocation
 blank = record { place = 0; kind = Based 0; at = 0 }

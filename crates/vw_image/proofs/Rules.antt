@@ -12,7 +12,7 @@ use Rattle.vw_bits.specs.Rules.{lowest_broken}
 use Rattle.vw_bits.specs.declared.records.Segment.{Segment}
 use Rattle.vw_bits.specs.declared.records.DynHeader.{DynHeader}
 use Rattle.vw_bits.proofs.RuleLemmas.{lowest-each}
-use Rattle.vw_dynamic.specs.declared.relas.Rela.{Rela}
+use Rattle.vw_dynamic.specs.declared.relas.RelaEntry.{RelaEntry}
 use Rattle.vw_dynamic.specs.declared.dynamic.Relocation.{Relocation}
 use Rattle.vw_dynamic.specs.declared.dynamic.RelKind.{RelKind}
 use Rattle.vw_dynamic.specs.declared.dynamic.RelKind.TheVariants.{Based, Bound}
@@ -21,16 +21,19 @@ use Rattle.vw_dynamic.specs.Names.{with_name, distinct}
 use Rattle.vw_dynamic.specs.Relas.{relas_of, rela_offset, is_none_kind, is_data, is_misplaced, share_byte, first_overlap}
 use Rattle.vw_dynamic.specs.Targets.{import_of, imports_of, kind_of, relocation_of, relocations_of}
 use Rattle.vw_dynamic.specs.Dynamic.{section_rules, entry_rules, rela_rules, dynamic_rules, dynamic_fault, entries_of, file_imports, file_relocations}
-use Rattle.vw_image.specs.Bounds.{Pairwise, AreSeparate, AllSeparate, AreBounded, AllApart}
+use Rattle.vw_bits.specs.Bounds.{AreBounded}
+use Rattle.vw_image.specs.Bounds.{Pairwise, AreSeparate, AllSeparate, AllApart}
 use Rattle.vw_image.specs.Image.{Contents, image_of, IsImage}
-use Rattle.vw_image.proofs.Lists.{or_left, or_right, find_none-All, All-weaker, All-map_filter, Pairwise-map_filter, Pairwise-from_earlier}
-use Rattle.vw_image.proofs.Segments.{AreBounded-from_rules, AllApart-from_rules}
+use Rattle.vw_bits.proofs.ListLemmas.{or_left, or_right, find_none-All, All-weaker}
+use Rattle.vw_image.proofs.Lists.{All-map_filter, Pairwise-map_filter, Pairwise-from_earlier}
+use Rattle.vw_bits.proofs.BoundLemmas.{AreBounded-from_rules}
+use Rattle.vw_image.proofs.Segments.{AllApart-from_rules}
 
 -- the relocations of a file with these dynamic sections, in their order
-abbrev relas_in : List ℕ → List Segment → List DynHeader → List Rela
+abbrev relas_in : List ℕ → List Segment → List DynHeader → List RelaEntry
 relas_in bytes segments dynamics = relas_of bytes segments (directory_of (entries_of bytes segments dynamics))
 
-unfound : (found : Option Rela) → rela_offset found ≡ None → found ≡ None
+unfound : (found : Option RelaEntry) → rela_offset found ≡ None → found ≡ None
 unfound None none = refl
 unfound (Some r) none = cc
 
@@ -49,25 +52,25 @@ none_overlaps bytes segments [] holds = rw (no_relas bytes segments) refl
 none_overlaps bytes segments (header ∷ more) holds = unfound _ (lowest-each 15 (dynamic_rules bytes segments (header ∷ more)) holds 10)
 
 -- two relocations with types share no byte
-abbrev Shareless : Rela → Rela → Type 0
+abbrev Shareless : RelaEntry → RelaEntry → Type 0
 Shareless x y = is_none_kind x ≡ false → is_none_kind y ≡ false → share_byte x.place y.place ≡ false
 
-abbrev overlaps : List Rela × Rela → Bool
+abbrev overlaps : List RelaEntry × RelaEntry → Bool
 overlaps p = not (is_none_kind p.1) && list_any (λ e. not (is_none_kind e) && share_byte e.place p.1.place) p.0
 
-tells : (front back : List Rela) (x y : Rela) → overlaps (front ++ x ∷ back, y) ≡ false → Shareless x y
+tells : (front back : List RelaEntry) (x y : RelaEntry) → overlaps (front ++ x ∷ back, y) ≡ false → Shareless x y
 tells front back x y none x_is y_is =
-    let f : Rela → Bool = λ e. not (is_none_kind e) && share_byte e.place y.place in
+    let f : RelaEntry → Bool = λ e. not (is_none_kind e) && share_byte e.place y.place in
     let any : list_any f (front ++ x ∷ back) ≡ false = rw y_is at none in
     let split : (list_any f front || (f x || list_any f back)) ≡ false = rw list_any-append at any in
     let here : f x ≡ false = or_left (f x) (list_any f back) (or_right (list_any f front) (f x || list_any f back) split) in
     rw x_is at here
 
-unmapped : (found : Option (List Rela × Rela)) → option_map (λ p. p.1) found ≡ None → found ≡ None
+unmapped : (found : Option (List RelaEntry × RelaEntry)) → option_map (λ p. p.1) found ≡ None → found ≡ None
 unmapped None none = refl
 unmapped (Some p) none = cc
 
-all_shareless : (relas : List Rela) → first_overlap relas ≡ None → Pairwise Shareless relas
+all_shareless : (relas : List RelaEntry) → first_overlap relas ≡ None → Pairwise Shareless relas
 unfolding first_overlap
 all_shareless relas none = Pairwise-from_earlier overlaps Shareless tells relas (unmapped _ none)
 
@@ -75,7 +78,7 @@ typed : (none : Bool) → not none ≡ true → none ≡ false
 typed true is = cc
 typed false is = refl
 
-module _ (bytes : List ℕ) (segments : List Segment) (strings : List ℕ) (symtab : Option ℕ) (relas : List Rela) where
+module _ (bytes : List ℕ) (segments : List Segment) (strings : List ℕ) (symtab : Option ℕ) (relas : List RelaEntry) where
   abbrev names : List (List ℕ)
   names = imports_of bytes segments strings symtab relas
 
@@ -89,7 +92,7 @@ module _ (bytes : List ℕ) (segments : List Segment) (strings : List ℕ) (symt
       (λ x y apart x_is y_is. apart (typed (is_none_kind x) x_is) (typed (is_none_kind y) y_is))
       (all_shareless relas none)
 
-  placed_one : (x : Rela) → is_misplaced segments x ≡ false → not (is_none_kind x) ≡ true → list_any (λ s. is_data s x.place) segments ≡ true
+  placed_one : (x : RelaEntry) → is_misplaced segments x ≡ false → not (is_none_kind x) ≡ true → list_any (λ s. is_data s x.place) segments ≡ true
   placed_one x fits some = at (list_any (λ s. is_data s x.place) segments) (rw some at fits)
     where
       at : (there : Bool) → not there ≡ false → there ≡ true
@@ -133,7 +136,7 @@ kept_one None rest some = absurd (false≢true some)
 kept_one (Some n) rest some = omega arith
 
 -- where an item has a name, there are names
-all_named : (g : Rela → Option (List ℕ)) (xs : List Rela) → AllByRecursion (λ x. IsSome (g x) → 0 < length (filter_map g xs)) xs
+all_named : (g : RelaEntry → Option (List ℕ)) (xs : List RelaEntry) → AllByRecursion (λ x. IsSome (g x) → 0 < length (filter_map g xs)) xs
 all_named g [] = tt
 all_named g (x ∷ xs) = (
   kept_one (g x) (filter_map g xs),
@@ -146,11 +149,11 @@ number_below : (name : List ℕ) (names : List (List ℕ)) (at : Option ℕ) →
 number_below name names None is some = some
 number_below name names (Some i) is some = (position-Some (bytes_eq name) names i [] is).0
 
-module _ (bytes : List ℕ) (segments : List Segment) (strings : List ℕ) (symtab : Option ℕ) (relas : List Rela) where
+module _ (bytes : List ℕ) (segments : List Segment) (strings : List ℕ) (symtab : Option ℕ) (relas : List RelaEntry) where
   abbrev all_names : List (List ℕ)
   all_names = imports_of bytes segments strings symtab relas
 
-  kind_numbered : (x : Rela) (relative : Bool) (name : Option (List ℕ)) (word : ℕ) → (IsSome name → 0 < length all_names)
+  kind_numbered : (x : RelaEntry) (relative : Bool) (name : Option (List ℕ)) (word : ℕ) → (IsSome name → 0 < length all_names)
       → IsNumberedKind (length all_names) (cond relative (Based x.addend) (option_map_or (λ n. Bound (unwrap_or (position (bytes_eq n) all_names) 0)) name (Based word)))
   kind_numbered x true name word some = tt
   kind_numbered x false None word some = tt

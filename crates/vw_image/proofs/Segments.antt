@@ -1,42 +1,21 @@
 -- What the rules on headers give of the segments, and where a byte is.
-use Rattle.std.proofs.Common.{◌≡◌, ℕ, ◌+◌, ◌<◌, ◌≤◌, ◌++◌, ◌||◌, [], ◌∷◌, Bool, true, false, not, cond, nat_le, List, length, Option, Some, None, option_map, refl, sym, ◌∙◌, arith}
+use Rattle.std.proofs.Common.{◌≡◌, ℕ, ◌+◌, ◌<◌, ◌≤◌, ◌++◌, ◌||◌, ◌∷◌, Bool, true, false, cond, nat_le, List, Option, Some, None, option_map, refl, sym, ◌∙◌, arith}
 use Rattle.std.specs.List.{find, list_any}
 use Rattle.std.proofs.lemmas.Bool.{false≢true}
 use Rattle.std.proofs.lemmas.Bool.Decides.{nat_tests}
 use Rattle.std.proofs.lemmas.List.Folds.{list_any-append}
 use Rattle.vw_bits.specs.Headers.{segments_of}
-use Rattle.vw_bits.specs.Places.{is_among, in_memory}
-use Rattle.vw_bits.specs.HeaderRules.{header_fault, header_rules, segment_rules, segment_fits, share_page, segments_clash, first_clash, header_of, has_no_segment, section_table_rule, symbol_section_rule}
+use Rattle.vw_bits.specs.Places.{in_memory}
+use Rattle.vw_bits.specs.HeaderRules.{header_fault, header_rules, segment_rules, share_page, segments_clash, first_clash, header_of, has_no_segment}
 use Rattle.vw_bits.specs.declared.records.Segment.{Segment}
 use Rattle.vw_bits.proofs.RuleLemmas.{lowest-each}
-use Rattle.vw_image.specs.Bounds.{IsBounded, AreBounded, AreApart, AllApart}
+use Rattle.vw_bits.proofs.BoundLemmas.{unfound, all_rules, among, among_is}
+use Rattle.vw_image.specs.Bounds.{AreApart, AllApart}
 use Rattle.vw_image.specs.Image.{segment_byte, memory_byte}
 use Rattle.vw_bits.specs.Fields.{load}
 use Rattle.vw_image.proofs.Numbers.{load-same}
-use Rattle.vw_image.proofs.Lists.{not_true, or_left, or_right, find_none-All, find-unique, All-weaker, Pairwise-from_earlier}
-
-unfound : (found : Option Segment) → header_of found ≡ None → found ≡ None
-unfound None none = refl
-unfound (Some s) none = cc
-
-bounded : (len : ℕ) (s : Segment) → not (segment_fits len s) ≡ false → IsBounded len s
-bounded len s fits = record { inside = grind (arith, nat_tests, fits); part = grind (arith, nat_tests, fits); below = grind (arith, nat_tests, fits) }
-
-abbrev all_rules : List ℕ → List (Option ℕ)
-all_rules bytes = header_rules bytes ++ segment_rules (length bytes) (segments_of bytes) ++ section_table_rule bytes ∷ symbol_section_rule bytes ∷ []
-
-pub AreBounded-from_rules : (bytes : List ℕ) → header_fault bytes ≡ None → AreBounded (length bytes) (segments_of bytes)
-unfolding header_fault header_rules segment_rules
-AreBounded-from_rules bytes holds =
-    let rule : header_of (find (λ s. not (segment_fits (length bytes) s)) (segments_of bytes)) ≡ None = lowest-each 1 (all_rules bytes) holds 9 in
-    All-weaker (λ s. not (segment_fits (length bytes) s) ≡ false) (IsBounded (length bytes)) (segments_of bytes) (bounded (length bytes))
-    (find_none-All (λ s. not (segment_fits (length bytes) s)) (segments_of bytes) (unfound _ rule))
-
-pub among : (start size a n : ℕ) → is_among start size a n ≡ true → (start ≤ a) × (a < start + size) × (a + n ≤ start + size)
-among start size a n is = grind (arith, nat_tests)
-
-pub among_is : (start size a n : ℕ) → start ≤ a → a < start + size → a + n ≤ start + size → is_among start size a n ≡ true
-among_is start size a n low high end = grind (arith, nat_tests)
+use Rattle.vw_bits.proofs.ListLemmas.{not_true, or_left, or_right}
+use Rattle.vw_image.proofs.Lists.{find-unique, Pairwise-from_earlier}
 
 -- segments that touch different pages have no byte in common
 apart : (s t : Segment) → segments_clash s t ≡ false → AreApart s t

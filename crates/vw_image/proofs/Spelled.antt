@@ -15,14 +15,17 @@ use Rattle.vw_dynamic.specs.declared.dynamic.RelKind.{RelKind}
 use Rattle.vw_dynamic.specs.declared.dynamic.RelKind.TheVariants.{Based as BasedKind, Bound as BoundKind}
 use Rattle.vw_image.specs.Image.{Contents, IsImage, segment_byte, memory_byte, shares, touches, relocated_word, byte_of, image_byte}
 use Rattle.vw_image.specs.Index.{kind_at, is_bound_kind, bound_ones}
-use Rattle.vw_image.specs.Bounds.{AreSeparate, IsBounded}
-use Rattle.vw_image.specs.Words.{in_readable, word_of, unrelocated_word, word_at, readable, bytes_at}
+use Rattle.vw_bits.specs.Bounds.{IsBounded}
+use Rattle.vw_image.specs.Bounds.{AreSeparate}
+use Rattle.vw_image.specs.Words.{in_readable, word_of_kind, unrelocated_word, word_at, readable, bytes_at}
 use Rattle.vw_image.specs.Stubs.{in_executable}
 use Rattle.vw_image.specs.declared.word.Word.TheVariants.{Plain, Mixed, Outside}
 use Rattle.vw_image.specs.Laws.{Gives, image_word}
-use Rattle.vw_image.proofs.Lists.{not_true, and_left, and_right, find-passes, find-holds, find-unique, find-none, find-ruled_out, find-any, any-from_find, any-filter}
+use Rattle.vw_bits.proofs.ListLemmas.{not_true, and_left, and_right, find-passes, find-holds, find-none, find-ruled_out, find-any, any-from_find}
+use Rattle.vw_image.proofs.Lists.{find-unique, any-filter}
 use Rattle.vw_image.proofs.Numbers.{load-same, load-bytes}
-use Rattle.vw_image.proofs.Segments.{among, among_is, find-segment, memory_byte-in, in_memory-one}
+use Rattle.vw_bits.proofs.BoundLemmas.{among, among_is}
+use Rattle.vw_image.proofs.Segments.{find-segment, memory_byte-in, in_memory-one}
 use Rattle.vw_image.proofs.Rules.{image-bounded, image-apart, image-separate, image-placed}
 use Rattle.vw_image.proofs.Words.{exact, relocation_at}
 
@@ -74,7 +77,7 @@ module _ (image : Contents) (base : ℕ) (hosts : ℕ → ℕ) where
       let whole : w % 256 ^ 8 ≡ w = omega arith in
       spelled ∙ whole ∙ ap (relocated_word base hosts) r.2
 
-  gives_kind : (n : ℕ) (kind : RelKind) → n ≡ relocated_word base hosts kind → Gives base hosts (word_of kind) n
+  gives_kind : (n : ℕ) (kind : RelKind) → n ≡ relocated_word base hosts kind → Gives base hosts (word_of_kind kind) n
   gives_kind n (BasedKind addend) is = is
   gives_kind n (BoundKind number) is = is
 
@@ -94,13 +97,13 @@ module _ (image : Contents) (base : ℕ) (hosts : ℕ → ℕ) where
   sized false found kind is = cc
 
   spelled_by : IsImage image → ((number : ℕ) → hosts number < 2 ^ 64) → (a size : ℕ) (found : Option RelKind) → exact image a size ≡ found
-      → Gives base hosts (option_map_or word_of found (unrelocated_word image a size)) (image_word image base hosts a size)
+      → Gives base hosts (option_map_or word_of_kind found (unrelocated_word image a size)) (image_word image base hosts a size)
   spelled_by is small a size None at = unrelocated a size (list_any (touches a size) image.relocations) (in_readable image.segments a size) refl
   spelled_by is small a size (Some kind) at =
       let both = sized (size == 8) (kind_at image.relocations a) kind at in
       let test : (size == 8) ≡ true = both.0 in
       let eight : size ≡ 8 = grind (arith, nat_tests, test) in
-      let P : ℕ → Type 0 = λ n. Gives base hosts (word_of kind) (image_word image base hosts a n) in
+      let P : ℕ → Type 0 = λ n. Gives base hosts (word_of_kind kind) (image_word image base hosts a n) in
       subst P (sym eight) (gives_kind (image_word image base hosts a 8) kind (exact_word is small a kind both.1))
 
 pub spelled : (image : Contents) → IsImage image → (a size : ℕ) → (base : ℕ) (hosts : ℕ → ℕ) → ((number : ℕ) → hosts number < 2 ^ 64) → Gives base hosts (word_at image a size) (image_word image base hosts a size)

@@ -10,8 +10,9 @@ use Rattle.vw_image.specs.Image.{Contents, segment_byte, memory_byte}
 use Rattle.vw_image.specs.Bounds.{AllApart}
 use Rattle.vw_image.specs.Words.{word_at}
 use Rattle.vw_image.specs.Stubs.{spells, in_executable, stands_at, slot_behind, slot_at, stub_to, stub_at}
-use Rattle.vw_image.proofs.Lists.{find-any, find-passes, and_right}
-use Rattle.vw_image.proofs.Segments.{among, among_is, memory_byte-in, in_memory-one, load-in}
+use Rattle.vw_bits.proofs.ListLemmas.{find-any, find-passes, and_right}
+use Rattle.vw_bits.proofs.BoundLemmas.{among, among_is}
+use Rattle.vw_image.proofs.Segments.{memory_byte-in, in_memory-one, load-in}
 
 abbrev pub holds : ℕ → ℕ → Segment → Bool
 holds a n s = is_executable s && in_memory a n s

@@ -11,9 +11,9 @@ use Rattle.vw_image.specs.declared.word.Word.{Word}
 use Rattle.vw_image.specs.declared.word.Word.TheVariants.{Plain, Mixed, Outside}
 use Rattle.vw_image.specs.Image.{Contents, IsImage, memory_byte, touches}
 use Rattle.vw_image.specs.Index.{kind_at}
-use Rattle.vw_image.specs.Words.{in_readable, word_of, word_at}
+use Rattle.vw_image.specs.Words.{in_readable, word_of_kind, word_at}
 use Rattle.vw_image.specs.Laws.{IsNumbered}
-use Rattle.vw_image.proofs.Lists.{find-holds}
+use Rattle.vw_bits.proofs.ListLemmas.{find-holds}
 use Rattle.vw_image.proofs.Rules.{IsNumberedKind, image-numbered}
 
 -- the relocation of just these bytes, where there is one
@@ -40,7 +40,7 @@ exact-some image a size kind is found =
     let test : (size == 8) ≡ true = eight size is in
     rw (test, found) refl
 
-pub word_at-exact : (image : Contents) (a size : ℕ) (kind : RelKind) → exact image a size ≡ Some kind → word_of kind ≡ word_at image a size
+pub word_at-exact : (image : Contents) (a size : ℕ) (kind : RelKind) → exact image a size ≡ Some kind → word_of_kind kind ≡ word_at image a size
 unfolding word_at
 word_at-exact image a size kind is = rw is refl
 
@@ -66,7 +66,7 @@ pub word_at-outside : (image : Contents) (a size : ℕ) → exact image a size �
 unfolding word_at
 word_at-outside image a size none untouched is = rw (none, untouched) (outside _ _ is)
 
-numbered_word : (count : ℕ) (kind : RelKind) → IsNumberedKind count kind → IsNumbered count (word_of kind)
+numbered_word : (count : ℕ) (kind : RelKind) → IsNumberedKind count kind → IsNumbered count (word_of_kind kind)
 numbered_word count (BasedKind addend) is = tt
 numbered_word count (BoundKind number) is = is
 
@@ -79,24 +79,24 @@ pub relocation_at : (xs : List Relocation) (a : ℕ) (kind : RelKind) → kind_a
 unfolding kind_at
 relocation_at xs a kind is = found_kind (find (λ s. s.place == a) xs) kind is
 
-pub word_of-numbered : (image : Contents) (a : ℕ) (kind : RelKind) → IsImage image → kind_at image.relocations a ≡ Some kind → IsNumbered (length image.imports) (word_of kind)
-word_of-numbered image a kind is found =
+pub word_of_kind-numbered : (image : Contents) (a : ℕ) (kind : RelKind) → IsImage image → kind_at image.relocations a ≡ Some kind → IsNumbered (length image.imports) (word_of_kind kind)
+word_of_kind-numbered image a kind is found =
     let r = relocation_at image.relocations a kind found in
     let below : IsNumberedKind (length image.imports) r.0.kind = find-holds (λ s. IsNumberedKind (length image.imports) s.kind) (λ s. s.place == a) image.relocations r.0 (image-numbered image is) r.1 in
     numbered_word (length image.imports) kind (subst (IsNumberedKind (length image.imports)) r.2 below)
 
 -- no number of a word is past those of the imports
-numbered_found : (image : Contents) (a : ℕ) (eight : Bool) (found : Option RelKind) → IsImage image → kind_at image.relocations a ≡ found → IfSome (cond eight found None) (λ kind. IsNumbered (length image.imports) (word_of kind))
+numbered_found : (image : Contents) (a : ℕ) (eight : Bool) (found : Option RelKind) → IsImage image → kind_at image.relocations a ≡ found → IfSome (cond eight found None) (λ kind. IsNumbered (length image.imports) (word_of_kind kind))
 numbered_found image a false found is at = tt
 numbered_found image a true None is at = tt
-numbered_found image a true (Some kind) is at = word_of-numbered image a kind is at
+numbered_found image a true (Some kind) is at = word_of_kind-numbered image a kind is at
 
 numbered_rest : (count number : ℕ) (touched inside : Bool) → IsNumbered count (cond touched Mixed (cond inside (Plain number) Outside))
 numbered_rest count number true inside = tt
 numbered_rest count number false true = tt
 numbered_rest count number false false = tt
 
-numbered_either : (count : ℕ) (found : Option RelKind) (rest : Word) → IfSome found (λ kind. IsNumbered count (word_of kind)) → IsNumbered count rest → IsNumbered count (option_map_or word_of found rest)
+numbered_either : (count : ℕ) (found : Option RelKind) (rest : Word) → IfSome found (λ kind. IsNumbered count (word_of_kind kind)) → IsNumbered count rest → IsNumbered count (option_map_or word_of_kind found rest)
 numbered_either count None rest found behind = behind
 numbered_either count (Some kind) rest found behind = found
 

@@ -1,20 +1,10 @@
--- What the rules give of the segments and the relocations of a file.
-use Rattle.std.specs.Prelude.{◌≡◌, ℕ, ◌+◌, ◌≤◌, ◌^◌, true, false, List, [], ◌∷◌}
+-- What the rules give of pairs of segments and of relocations of a file.
+use Rattle.std.specs.Prelude.{◌≡◌, ℕ, true, false, List, [], ◌∷◌}
 use Rattle.std.specs.List.{AllByRecursion}
 use Rattle.vw_bits.specs.Places.{in_memory}
 use Rattle.vw_bits.specs.declared.records.Segment.{Segment}
 use Rattle.vw_dynamic.specs.declared.dynamic.Relocation.{Relocation}
 use Rattle.vw_image.specs.Image.{touches}
-
--- a segment's file part ends at or before `len` in the file and is no longer than its memory, which ends at or
--- before 2^31
-pub record IsBounded (len : ℕ) (s : Segment) : Type 0 where
-  pub inside : s.offset + s.filesz ≤ len
-  pub part : s.filesz ≤ s.memsz
-  pub below : s.vaddr + s.memsz ≤ 2 ^ 31
-
-abbrev pub AreBounded : ℕ → List Segment → Type 0
-AreBounded len segments = AllByRecursion (IsBounded len) segments
 
 -- a relation holds of each item and each one behind it
 unfoldable pub Pairwise : {X : Type 0} → (X → X → Type 0) → List X → Type 0

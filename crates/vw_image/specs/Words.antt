@@ -17,9 +17,10 @@ use Rattle.vw_image.specs.Index.{kind_at, bound_ones}
 abbrev pub in_readable : List Segment → ℕ → ℕ → Bool
 in_readable segments a n = list_any (λ s. is_readable s && in_memory a n s) segments
 
-abbrev pub word_of : RelKind → Word
-word_of (BasedKind addend) = Based addend
-word_of (BoundKind number) = Bound number
+-- the word that a relocation of a kind makes of its eight bytes
+abbrev pub word_of_kind : RelKind → Word
+word_of_kind (BasedKind addend) = Based addend
+word_of_kind (BoundKind number) = Bound number
 
 -- a range that no relocation of just its bytes changes
 abbrev pub unrelocated_word : Contents → ℕ → ℕ → Word
@@ -32,7 +33,7 @@ unrelocated_word image a size =
 -- one segment with the right to read; and else the number that its bytes spell.
 unfoldable pub word_at : Contents → ℕ → ℕ → Word
 word_at image a size =
-    option_map_or word_of (if size == 8 then kind_at image.relocations a else None) (unrelocated_word image a size)
+    option_map_or word_of_kind (if size == 8 then kind_at image.relocations a else None) (unrelocated_word image a size)
 
 -- a range in the memory of one segment with the right to read, which no relocation changes that binds an import
 unfoldable pub readable : Contents → ℕ → ℕ → Bool

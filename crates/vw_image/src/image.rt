@@ -3,7 +3,7 @@ ghost use Rattle.vw_bits.specs.Headers.{segments_of};
 ghost use Rattle.vw_bits.specs.HeaderRules.{header_fault};
 ghost use Rattle.vw_dynamic.specs.Dynamic.{dynamic_fault, file_relocations, file_imports};
 ghost use Rattle.vw_image.specs.Image.{image_of, IsImage};
-ghost use Rattle.vw_image.specs.Words.{word_at, readable, bytes_at, word_of};
+ghost use Rattle.vw_image.specs.Words.{word_at, readable, bytes_at, word_of_kind};
 ghost use Rattle.vw_image.specs.Stubs.{stub_at, IsBound};
 ghost use Rattle.vw_image.specs.Laws.{IsSize, IsNumbered};
 
@@ -108,7 +108,7 @@ impl Image {
     {
         if size == 8 {
             if let Some(kind) = self.places.get(&a) {
-                return word_of(*kind);
+                return word_of_kind(*kind);
             }
         }
         if touches(&self.places, a, size as u64) {
@@ -151,8 +151,8 @@ impl Image {
     }
 }
 
-fn word_of(kind: RelKind) -> Word
-    ensures { result ≡ word_of kind }
+fn word_of_kind(kind: RelKind) -> Word
+    ensures { result ≡ word_of_kind kind }
 {
     match kind {
         RelKind::Based(addend) => Word::Based(addend),

@@ -3,7 +3,7 @@
 ghost use Rattle.std.specs.Prelude.{◌≡◌, ℕ, ◌+◌, ◌^◌, ◌≤◌, ◌<◌, List, length, true, None, Some, slice_index};
 ghost use Rattle.vw_bits.specs.Headers.{segments_of};
 ghost use Rattle.vw_bits.specs.HeaderRules.{header_fault};
-ghost use Rattle.vw_image.specs.Bounds.{AreBounded};
+ghost use Rattle.vw_bits.specs.Bounds.{AreBounded};
 ghost use Rattle.vw_image.specs.Image.{Contents, IsImage, memory_byte, image_byte};
 ghost use Rattle.vw_image.specs.Words.{word_at, readable, bytes_at};
 ghost use Rattle.vw_image.specs.Stubs.{in_executable};

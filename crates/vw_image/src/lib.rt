@@ -16,6 +16,3 @@ pub use laws::{
 };
 pub use stub::{Stub, StubTo};
 pub use word::Word;
-
-#[cfg(test)]
-mod tests;

@@ -2,20 +2,14 @@ ghost use Rattle.std.specs.Prelude.{◌≡◌, ◌+◌, ◌≤◌, ◌&&◌, len
 ghost use Rattle.std.specs.List.{find};
 ghost use Rattle.vw_bits.specs.Fields.{load};
 ghost use Rattle.vw_bits.specs.Headers.{is_readable, is_executable};
-ghost use Rattle.vw_bits.specs.Places.{is_among, in_memory, in_file_part, file_offset};
-ghost use Rattle.vw_image.specs.Bounds.{IsBounded, AreBounded, AllApart};
+ghost use Rattle.vw_bits.specs.Places.{in_memory, file_offset};
+ghost use Rattle.vw_bits.specs.Bounds.{IsBounded, AreBounded};
+ghost use Rattle.vw_image.specs.Bounds.{AllApart};
 ghost use Rattle.vw_image.specs.Image.{segment_byte, memory_byte};
 ghost use Rattle.vw_image.specs.Words.{in_readable};
 
 use bitflags::Flags;
-use vw_bits::{Rights, Segment, read_u64};
-
-// Whether `size` bytes from `address` on are among the `len` bytes from `start` on.
-fn is_among(start: u64, len: u64, address: u64, size: u64) -> bool
-    ensures { result ≡ is_among start len address size }
-{
-    start <= address && address - start < len && size <= len - (address - start)
-}
+use vw_bits::{Rights, Segment, file_offset, is_among, read_u64};
 
 // The first segment with the right to read in whose memory a range is.
 pub(crate) fn readable_segment(segments: &[Segment], address: u64, size: u64) -> Option<&Segment>
@@ -33,15 +27,6 @@ pub(crate) fn executable_segment(segments: &[Segment], address: u64, size: u64) 
         && is_among(s.vaddr, s.memsz, address, size))
 }
 
-// The first segment in whose file part a range is.
-fn file_segment(segments: &[Segment], address: u64, size: u64) -> Option<&Segment>
-    ensures { option_copied result ≡ find (in_file_part address size) segments.now }
-{
-    segments
-        .iter()
-        .find(|s| is_among(s.vaddr, s.filesz, address, size))
-}
-
 // The bytes of the file for a range in the file part of a segment.
 pub(crate) fn file_bytes<'a>(
     bytes: &'a [u8],
@@ -52,8 +37,8 @@ pub(crate) fn file_bytes<'a>(
     requires { AreBounded (length bytes.now) segments.now }
     ensures { option_copied result ≡ option_map (λ at. take size (drop at bytes.now)) (file_offset segments.now address size) }
 {
-    let segment = file_segment(segments, address, size)?;
-    Some(part(bytes, segment.offset + (address - segment.vaddr), size))
+    let offset = file_offset(segments, address, size)?;
+    Some(part(bytes, offset, size))
 }
 
 fn part(bytes: &[u8], offset: u64, size: u64) -> &[u8]

@@ -1,6 +1,7 @@
 ghost use Rattle.std.specs.Prelude.{◌≡◌, ◌+◌, ◌≤◌, length, true, Some, None, if◌then◌else◌};
 ghost use Rattle.vw_bits.specs.Places.{in_memory};
-ghost use Rattle.vw_image.specs.Bounds.{IsBounded, AreBounded, AllApart};
+ghost use Rattle.vw_bits.specs.Bounds.{IsBounded, AreBounded};
+ghost use Rattle.vw_image.specs.Bounds.{AllApart};
 ghost use Rattle.vw_image.specs.Image.{segment_byte};
 ghost use Rattle.vw_image.specs.Stubs.{spells, stands_at, slot_behind, slot_at, stub_to};
 

@@ -12,7 +12,7 @@ use Rattle.std.proofs.lemmas.List.{map-append}
 use Rattle.std.proofs.lemmas.List.Sums.{fold-append}
 use Rattle.std.proofs.lemmas.List.Folds.{find-append}
 use Rattle.std.proofs.lemmas.List.Elements.{All-nil, All-cons}
-use Rattle.vw_dynamic.proofs.ListLemmas.{find_holds}
+use Rattle.vw_bits.proofs.ListLemmas.{find_holds}
 use Rattle.vw_layout.specs.Bounds.{Rises}
 use Rattle.vw_layout.specs.Functions.{first_at, placed, ascending, addresses_of, by_address, is_resized}
 use Rattle.vw_layout.specs.declared.symbols.SymbolEntry.{SymbolEntry}

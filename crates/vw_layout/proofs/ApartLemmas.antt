@@ -17,7 +17,8 @@ use Rattle.vw_layout.specs.declared.symbols.SymbolEntry.{SymbolEntry}
 use Rattle.vw_layout.specs.declared.functions.Function.{Function}
 use Rattle.vw_layout.proofs.AddressLemmas.{Rises-addresses, Rises-by_address, addresses-more, addresses-none, any_address, placed_old}
 use Rattle.vw_layout.proofs.OverlapLemmas.{ordered}
-use Rattle.vw_layout.proofs.ShortLemmas.{passed, unfound}
+use Rattle.vw_bits.proofs.ListLemmas.{passed}
+use Rattle.vw_layout.proofs.ShortLemmas.{unfound}
 use Rattle.vw_layout.proofs.CodeLemmas.{layout_holds}
 
 -- lists

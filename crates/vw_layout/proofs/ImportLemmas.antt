@@ -18,7 +18,7 @@ use Rattle.vw_dynamic.specs.Names.{with_name, distinct}
 use Rattle.vw_dynamic.specs.Relas.{is_none_kind}
 use Rattle.vw_dynamic.specs.Targets.{is_symbolic, import_of, imports_of, kind_of, relocation_of, relocations_of}
 use Rattle.vw_dynamic.specs.Dynamic.{file_imports, file_relocations}
-use Rattle.vw_dynamic.specs.declared.relas.Rela.{Rela}
+use Rattle.vw_dynamic.specs.declared.relas.RelaEntry.{RelaEntry}
 use Rattle.vw_dynamic.specs.declared.dynamic.Relocation.{Relocation}
 use Rattle.vw_dynamic.specs.declared.dynamic.RelKind.{RelKind}
 use Rattle.vw_dynamic.specs.declared.dynamic.RelKind.TheVariants.{Bound}
@@ -108,20 +108,20 @@ few_below most names differ below =
 
 -- relocations
 
-symbolic_kinds : (r : Rela) → is_symbolic r ≡ true → ((r.kind == 8) ≡ false) × ((r.kind == 0) ≡ false)
+symbolic_kinds : (r : RelaEntry) → is_symbolic r ≡ true → ((r.kind == 8) ≡ false) × ((r.kind == 0) ≡ false)
 symbolic_kinds r is = (grind (arith, nat_tests, is), grind (arith, nat_tests, is))
 
 module _ (bytes : List ℕ) (segments : List Segment) (strings : List ℕ) (symtab : Option ℕ) (imports : List (List ℕ)) where
-  abbrev of : Rela → Option (List ℕ)
+  abbrev of : RelaEntry → Option (List ℕ)
   of = import_of bytes segments strings symtab
 
-  abbrev made : Rela → Relocation
+  abbrev made : RelaEntry → Relocation
   made = relocation_of bytes segments strings symtab imports
 
   abbrev IsEarly : Relocation → Type 0
   IsEarly m = is_late m.kind ≡ false
 
-  unnamed : (r : Rela) → is_symbolic r ≡ false → of r ≡ None
+  unnamed : (r : RelaEntry) → is_symbolic r ≡ false → of r ≡ None
   unfolding import_of
   unnamed r is = rw is refl
 
@@ -129,27 +129,27 @@ module _ (bytes : List ℕ) (segments : List Segment) (strings : List ℕ) (symt
   below_of None base early = tt
   below_of (Some name) base early = grind (arith, nat_tests, early)
 
-  named_below : (r : Rela) → (r.kind == 8) ≡ false → is_late (kind_of bytes segments strings symtab imports r) ≡ false → IfSome (of r) (IsBelow 65536 imports)
+  named_below : (r : RelaEntry) → (r.kind == 8) ≡ false → is_late (kind_of bytes segments strings symtab imports r) ≡ false → IfSome (of r) (IsBelow 65536 imports)
   unfolding kind_of
   named_below r not early = below_of (of r) _ (rw not at early)
 
-  rest_early : (r : Rela) (rest : List Rela) (kept : Bool) → All IsEarly (map made (cond kept (r ∷ rest) rest)) → All IsEarly (map made rest)
+  rest_early : (r : RelaEntry) (rest : List RelaEntry) (kept : Bool) → All IsEarly (map made (cond kept (r ∷ rest) rest)) → All IsEarly (map made rest)
   rest_early r rest true all = All-tail IsEarly (made r) (map made rest) all
   rest_early r rest false all = all
 
-  this_below : (r : Rela) (rest : List Rela) (symbolic : Bool) → is_symbolic r ≡ symbolic → All IsEarly (map made (cond (not (is_none_kind r)) (r ∷ rest) rest)) → IfSome (of r) (IsBelow 65536 imports)
+  this_below : (r : RelaEntry) (rest : List RelaEntry) (symbolic : Bool) → is_symbolic r ≡ symbolic → All IsEarly (map made (cond (not (is_none_kind r)) (r ∷ rest) rest)) → IfSome (of r) (IsBelow 65536 imports)
   this_below r rest true is all =
       let kinds = symbolic_kinds r is in
       named_below r kinds.0 (All-head IsEarly (made r) (map made rest) (rw kinds.1 at all))
   this_below r rest false is all = rw (unnamed r is) tt
 
-  each_below : (relas : List Rela) → All IsEarly (map made (filter (λ r. not (is_none_kind r)) relas)) → All (λ r. IfSome (of r) (IsBelow 65536 imports)) relas
+  each_below : (relas : List RelaEntry) → All IsEarly (map made (filter (λ r. not (is_none_kind r)) relas)) → All (λ r. IfSome (of r) (IsBelow 65536 imports)) relas
   each_below [] all = All-nil (λ r. IfSome (of r) (IsBelow 65536 imports))
   each_below (r ∷ relas) all =
       let rest = filter (λ r. not (is_none_kind r)) relas in
       All-cons (λ r. IfSome (of r) (IsBelow 65536 imports)) r relas (this_below r rest (is_symbolic r) refl all) (each_below relas (rest_early r rest (not (is_none_kind r)) all))
 
-few_of : (bytes : List ℕ) (segments : List Segment) (strings : List ℕ) (symtab : Option ℕ) (relas : List Rela) → import_rule (relocations_of bytes segments strings symtab (imports_of bytes segments strings symtab relas) relas) ≡ None → length (imports_of bytes segments strings symtab relas) ≤ 65536
+few_of : (bytes : List ℕ) (segments : List Segment) (strings : List ℕ) (symtab : Option ℕ) (relas : List RelaEntry) → import_rule (relocations_of bytes segments strings symtab (imports_of bytes segments strings symtab relas) relas) ≡ None → length (imports_of bytes segments strings symtab relas) ≤ 65536
 unfolding imports_of relocations_of
 few_of bytes segments strings symtab relas holds =
     let names = filter_map (import_of bytes segments strings symtab) relas in
@@ -171,7 +171,7 @@ unfolding file_imports file_relocations
 few_imports file is = few_of _ _ _ _ _ (rule_36 file is)
 
 -- the names of a file's imports differ
-differ_imports : (bytes : List ℕ) (segments : List Segment) (strings : List ℕ) (symtab : Option ℕ) (relas : List Rela) → Differ (imports_of bytes segments strings symtab relas)
+differ_imports : (bytes : List ℕ) (segments : List Segment) (strings : List ℕ) (symtab : Option ℕ) (relas : List RelaEntry) → Differ (imports_of bytes segments strings symtab relas)
 unfolding imports_of
 differ_imports bytes segments strings symtab relas = differ_distinct (filter_map (import_of bytes segments strings symtab) relas)
 

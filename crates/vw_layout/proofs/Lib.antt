@@ -1,4 +1,3 @@
-pub mod FaultLemmas
 pub mod SymbolLemmas
 pub mod AddressLemmas
 pub mod DistinctLemmas

@@ -11,12 +11,12 @@ use Rattle.vw_bits.specs.HeaderRules.{header_fault}
 use Rattle.vw_bits.specs.Rules.{lowest_broken, AllHold}
 use Rattle.vw_bits.proofs.RuleLemmas.{lowest-shift}
 use Rattle.vw_elf.specs.declared.sections.SymbolSection.{SymbolSection}
-use Rattle.vw_dynamic.specs.Bounds.{AreBounded}
+use Rattle.vw_bits.specs.Bounds.{AreBounded}
 use Rattle.vw_dynamic.specs.Dynamic.{dynamic_fault, file_relocations}
-use Rattle.vw_dynamic.proofs.BoundLemmas.{AreBounded-from_rules, length-from_rules, AreBounded-widen}
+use Rattle.vw_bits.proofs.BoundLemmas.{AreBounded-from_rules, length-from_rules, AreBounded-widen}
 use Rattle.vw_image.specs.Image.{Contents, image_of, IsImage}
 use Rattle.vw_layout.specs.Bounds.{IsShort, AreShort}
-use Rattle.vw_layout.specs.Faults.{Names, Tells}
+use Rattle.vw_layout.specs.Faults.{fault_in, Names, Tells}
 use Rattle.vw_layout.specs.Symbols.{symbols_for, distinct_sections}
 use Rattle.vw_layout.specs.Functions.{by_address, function_of, functions_of, function_rules}
 use Rattle.vw_layout.specs.Tables.{table_rules, tables_of}
@@ -31,13 +31,13 @@ use Rattle.vw_layout.specs.declared.faults.ModuleError.TheVariants.{Malformed, M
 use Rattle.vw_layout.proofs.AddressLemmas.{Rises-by_address, Rises-place, All-by_address}
 use Rattle.vw_layout.proofs.DistinctLemmas.{AreAlike, alike_distinct, rules_alike, functions_alike, table_rules_alike, tables_alike}
 use Rattle.vw_layout.proofs.ShortLemmas.{AreShort-from_rules}
-use Rattle.vw_layout.proofs.FaultLemmas.{names_here, names_front, names_behind, holds_next, holds_append}
+use Rattle.vw_bits.proofs.FaultLemmas.{names_here, names_front, names_behind, holds_next, holds_append}
 
 -- the segments of a file that meets rules 1 to 14
-pub segments_low : (bytes : List ℕ) → header_fault bytes ≡ None → AreBounded (2 ^ 32) (segments_of bytes)
+pub segments_low : (bytes : List ℕ) → header_fault bytes ≡ None → AreBounded (2 ^ 64) (segments_of bytes)
 segments_low bytes headers =
     let few = length-from_rules bytes headers in
-    AreBounded-widen (length bytes) (segments_of bytes) (omega (arith, few)) (AreBounded-from_rules bytes headers)
+    AreBounded-widen (length bytes) (2 ^ 64) (segments_of bytes) (omega (arith, few)) (AreBounded-from_rules bytes headers)
 
 pub segments_are : (image : Contents) → IsImage image → image.segments ≡ segments_of image.bytes
 unfolding image_of
@@ -101,18 +101,18 @@ module _ (bytes : List ℕ) where
 
   pub in_functions : (e : ModuleError) → Names (lowest_broken 27 fs) e → Names (layout_fault bytes) e
   unfolding layout_fault
-  in_functions e names = names_front 27 (fs ++ ts) (late ∷ []) e (names_front 27 fs ts e names)
+  in_functions e names = names_front 27 (fs ++ ts) (late ∷ []) (fault_in e) (names_front 27 fs ts (fault_in e) names)
 
   pub in_tables : (e : ModuleError) → AllHold fs → Names (lowest_broken 32 ts) e → Names (layout_fault bytes) e
   unfolding layout_fault
-  in_tables e holds names = names_front 27 (fs ++ ts) (late ∷ []) e (names_behind 27 32 fs ts e holds five names)
+  in_tables e holds names = names_front 27 (fs ++ ts) (late ∷ []) (fault_in e) (names_behind 27 32 fs ts (fault_in e) holds five names)
 
   both : AllHold fs → AllHold ts → AllHold (fs ++ ts)
   both functions tables = holds_append 1 6 fs ts functions next_five (lowest-shift 1 6 ts tables)
 
   pub in_imports : (found : Option ℕ) (e : ModuleError) → AllHold fs → AllHold ts → found ≡ late → Tells 36 found e → Names (layout_fault bytes) e
   unfolding layout_fault
-  in_imports found e functions tables is tells = names_behind 27 36 (fs ++ ts) (late ∷ []) e (both functions tables) nine (names_here 36 found late [] e is tells)
+  in_imports found e functions tables is tells = names_behind 27 36 (fs ++ ts) (late ∷ []) (fault_in e) (both functions tables) nine (names_here 36 found late [] (fault_in e) is tells)
 
   pub none_broken : (found : Option ℕ) → AllHold fs → AllHold ts → found ≡ late → found ≡ None → layout_fault bytes ≡ None
   unfolding layout_fault

@@ -6,12 +6,10 @@ use Rattle.std.proofs.lemmas.List.Elements.{All-nil, All-cons, All-head, All-tai
 use Rattle.vw_bits.specs.Headers.{segments_of, section_headers, sh_offset, sh_size}
 use Rattle.vw_bits.specs.HeaderRules.{header_fault, header_rules, segment_rules, section_table_rule, symbol_section_rule, is_symbol_section, symbol_section_fits}
 use Rattle.vw_bits.proofs.RuleLemmas.{lowest-each}
+use Rattle.vw_bits.proofs.BoundLemmas.{all_rules}
 use Rattle.vw_elf.specs.SymbolSections.{symbol_section_at, symbol_sections}
 use Rattle.vw_layout.specs.Bounds.{IsInside, AreInside}
 use Rattle.vw_layout.proofs.ShortLemmas.{find_none-All}
-
-abbrev all_rules : List ℕ → List (Option ℕ)
-all_rules bytes = header_rules bytes ++ segment_rules (length bytes) (segments_of bytes) ++ section_table_rule bytes ∷ symbol_section_rule bytes ∷ []
 
 fits_inside : (bytes : List ℕ) (header : ℕ) → symbol_section_fits bytes header ≡ true → IsInside (length bytes) (symbol_section_at bytes header)
 unfolding symbol_section_fits symbol_section_at

@@ -7,12 +7,12 @@ use Rattle.std.proofs.lemmas.List.{take_more, flat_map_more, map-append}
 use Rattle.std.proofs.lemmas.List.Concat.{flat_map-append}
 use Rattle.vw_bits.proofs.Tables.{table-more}
 use Rattle.std.proofs.lemmas.List.Folds.{find-append, flat_map-map}
-use Rattle.std.proofs.lemmas.List.Elements.{All-head, All-tail, All-weaker}
+use Rattle.std.proofs.lemmas.List.Elements.{All-weaker}
 use Rattle.vw_bits.specs.Headers.{table, is_readable, is_executable}
 use Rattle.vw_bits.specs.Places.{in_file_part}
 use Rattle.vw_bits.specs.declared.records.Segment.{Segment}
-use Rattle.vw_dynamic.specs.Bounds.{IsBounded, AreBounded}
-use Rattle.vw_dynamic.proofs.ListLemmas.{split_at}
+use Rattle.vw_bits.specs.Bounds.{IsBounded, AreBounded}
+use Rattle.vw_bits.proofs.ListLemmas.{or_cases, split_at}
 use Rattle.vw_image.specs.Image.{Contents}
 use Rattle.vw_layout.specs.Tables.{in_read_part, in_data_part, is_table, is_table_entry, entries_from, table_at, place_of}
 use Rattle.vw_layout.specs.Spans.{span_at, entries_in, table_in, IsLow, AreLow}
@@ -72,36 +72,34 @@ pub tables_same : (image : Contents) (pairs : List ℕ) (spans : List Span) → 
 tables_same image pairs spans are = ap (map (table_in image)) are ∙ tables_joined image pairs
 
 -- ranges in the file part of a segment end at or below 2^32
-or_cases : (a b : Bool) → (a || b) ≡ true → (a ≡ true) ⊎ (b ≡ true)
-or_cases true b h = inl refl
-or_cases false b h = inr h
-
-read_end : (segment : Segment) (a n : ℕ) → IsBounded (2 ^ 32) segment → (is_readable segment && in_file_part a n segment) ≡ true → a + n ≤ 2 ^ 32
+read_end : (segment : Segment) (a n : ℕ) → IsBounded (2 ^ 64) segment → (is_readable segment && in_file_part a n segment) ≡ true → a + n ≤ 2 ^ 32
 read_end segment a n bounded inside =
-    let end : segment.vaddr + segment.filesz ≤ 2 ^ 32 = bounded.below in
+    let end : segment.vaddr + segment.memsz ≤ 2 ^ 31 = bounded.below in
+    let short : segment.filesz ≤ segment.memsz = bounded.part in
     let part : a + n ≤ segment.vaddr + segment.filesz = grind (arith, nat_tests, inside) in
-    omega (arith, end, part)
+    omega (arith, end, short, part)
 
-pub read_below : (segments : List Segment) (a n : ℕ) → AreBounded (2 ^ 32) segments → in_read_part segments a n ≡ true → a + n ≤ 2 ^ 32
+pub read_below : (segments : List Segment) (a n : ℕ) → AreBounded (2 ^ 64) segments → in_read_part segments a n ≡ true → a + n ≤ 2 ^ 32
 read_below [] a n bounded some = absurd (false≢true some)
 read_below (segment ∷ more) a n bounded some =
     elim (or_cases (is_readable segment && in_file_part a n segment) (in_read_part more a n) some) [
-      | inl here ↦ read_end segment a n (All-head (IsBounded (2 ^ 32)) segment more bounded) here
-      | inr there ↦ read_below more a n (All-tail (IsBounded (2 ^ 32)) segment more bounded) there
+      | inl here ↦ read_end segment a n bounded.0 here
+      | inr there ↦ read_below more a n bounded.1 there
     ]
 
-data_end : (segment : Segment) (a n : ℕ) → IsBounded (2 ^ 32) segment → (is_readable segment && not (is_executable segment) && in_file_part a n segment) ≡ true → a + n ≤ 2 ^ 32
+data_end : (segment : Segment) (a n : ℕ) → IsBounded (2 ^ 64) segment → (is_readable segment && not (is_executable segment) && in_file_part a n segment) ≡ true → a + n ≤ 2 ^ 32
 data_end segment a n bounded inside =
-    let end : segment.vaddr + segment.filesz ≤ 2 ^ 32 = bounded.below in
+    let end : segment.vaddr + segment.memsz ≤ 2 ^ 31 = bounded.below in
+    let short : segment.filesz ≤ segment.memsz = bounded.part in
     let part : a + n ≤ segment.vaddr + segment.filesz = grind (arith, nat_tests, inside) in
-    omega (arith, end, part)
+    omega (arith, end, short, part)
 
-data_below : (segments : List Segment) (a n : ℕ) → AreBounded (2 ^ 32) segments → in_data_part segments a n ≡ true → a + n ≤ 2 ^ 32
+data_below : (segments : List Segment) (a n : ℕ) → AreBounded (2 ^ 64) segments → in_data_part segments a n ≡ true → a + n ≤ 2 ^ 32
 data_below [] a n bounded some = absurd (false≢true some)
 data_below (segment ∷ more) a n bounded some =
     elim (or_cases (is_readable segment && not (is_executable segment) && in_file_part a n segment) (in_data_part more a n) some) [
-      | inl here ↦ data_end segment a n (All-head (IsBounded (2 ^ 32)) segment more bounded) here
-      | inr there ↦ data_below more a n (All-tail (IsBounded (2 ^ 32)) segment more bounded) there
+      | inl here ↦ data_end segment a n bounded.0 here
+      | inr there ↦ data_below more a n bounded.1 there
     ]
 
 pub passed : (b : Bool) → not b ≡ false → b ≡ true
@@ -117,7 +115,7 @@ nowhere segments None none = refl
 nowhere segments (Some a) none = cc
 
 -- what rule 34 gives
-pub AreLow-from_rule : (segments : List Segment) (spans : List Span) → AreBounded (2 ^ 32) segments → option_map (λ s. s.pair) (find (λ s. not (in_data_part segments s.start (16 * s.count))) spans) ≡ None → AreLow spans
+pub AreLow-from_rule : (segments : List Segment) (spans : List Span) → AreBounded (2 ^ 64) segments → option_map (λ s. s.pair) (find (λ s. not (in_data_part segments s.start (16 * s.count))) spans) ≡ None → AreLow spans
 AreLow-from_rule segments spans bounded none =
     let test : Span → Bool = λ s. not (in_data_part segments s.start (16 * s.count)) in
     let all = find_none-All test spans (none_of (λ s. s.pair) (find test spans) none) in

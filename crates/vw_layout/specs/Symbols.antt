@@ -1,11 +1,10 @@
 -- The symbols of a file, with their names (System V gABI, "Symbol Table", "String Table").
-use Rattle.std.specs.Prelude.{ℕ, Bool, false, ◌&&◌, ◌==◌, nat_le, List, [], ◌∷◌, ◌++◌, length, take, drop, map, fold, filter, Option, Some, None, option_and_then, codes, if◌then◌else◌}
+use Rattle.std.specs.Prelude.{ℕ, Bool, false, ◌&&◌, ◌==◌, nat_le, List, [], ◌∷◌, ◌++◌, take, drop, map, fold, filter, Option, codes, if◌then◌else◌}
 use Rattle.std.specs.List.{flat_map, list_any}
 use Rattle.std.specs.Option.{option_map_or}
 use Rattle.std.specs.Str.{bytes_eq}
 use Rattle.vw_bits.specs.Headers.{table}
-use Rattle.vw_bits.specs.Lists.{before_first}
-use Rattle.vw_bits.specs.Symbols.{symbol_at, symbol_type, is_defined, string_at}
+use Rattle.vw_bits.specs.Symbols.{symbol_at, symbol_type, is_defined, short_string_at}
 use Rattle.vw_elf.specs.declared.sections.SymbolSection.{SymbolSection}
 use Rattle.vw_layout.specs.declared.symbols.SymbolEntry.{SymbolEntry}
 use Rattle.vw_layout.specs.declared.symbols.Role.{Role}
@@ -39,14 +38,6 @@ distinct_sections sections = fold with_section [] sections
 unfoldable pub symbols_of : List ℕ → List SymbolSection → List SymbolEntry
 symbols_of bytes sections = flat_map (section_symbols bytes) sections
 
--- a name: a string of at most 1,024 bytes
-abbrev pub short_name : Option (List ℕ) → Option (List ℕ)
-short_name string = option_and_then (λ name. if nat_le (length name) 1024 then Some name else None) string
-
--- the name that bytes begin with
-unfoldable pub short_string : List ℕ → Option (List ℕ)
-short_string bytes = short_name (before_first (λ b. b == 0) bytes)
-
 -- the bytes of the string table of a symbol's section
 abbrev pub strings_of : List ℕ → SymbolEntry → List ℕ
 strings_of bytes s = take s.strings_size (drop s.strings_at bytes)
@@ -54,7 +45,7 @@ strings_of bytes s = take s.strings_size (drop s.strings_at bytes)
 -- a symbol's name, which ends with a zero byte inside the string table of its section after at most 1,024
 -- bytes; `None` where it does not
 unfoldable pub name_of : List ℕ → SymbolEntry → Option (List ℕ)
-name_of bytes s = short_name (string_at (strings_of bytes s) s.symbol.name)
+name_of bytes s = short_string_at (strings_of bytes s) s.symbol.name
 
 -- a function symbol: defined, of type STT_FUNC (2) and of a size of at least 1
 abbrev pub is_function : SymbolEntry → Bool

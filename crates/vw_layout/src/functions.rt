@@ -4,7 +4,7 @@ ghost use Rattle.std.specs.Ordering.{nat_cmp};
 ghost use Rattle.std.specs.List.{find, list_any, filter_map};
 ghost use Rattle.std.specs.Option.{option_map_or};
 ghost use Rattle.vw_bits.specs.Rules.{lowest_broken, AllHold};
-ghost use Rattle.vw_dynamic.specs.Bounds.{AreBounded};
+ghost use Rattle.vw_bits.specs.Bounds.{AreBounded};
 ghost use Rattle.vw_layout.specs.Bounds.{AreInside, AreShort, Rises};
 ghost use Rattle.vw_layout.specs.Faults.{Names};
 ghost use Rattle.vw_layout.specs.Symbols.{symbols_for};
@@ -12,12 +12,11 @@ ghost use Rattle.vw_layout.specs.Functions.{symbol_offset, is_nameless, is_code,
 
 use crate::ModuleError;
 use crate::faults::refuse;
-use crate::places::is_among;
 use crate::symbols::{Role, SymbolEntry, name_of, read_symbols};
 use bitflags::Flags;
 use std::alloc::Global;
 use std::collections::{BTreeMap, BTreeSet};
-use vw_bits::{List, OutOfMemory, Rights, Segment, Text};
+use vw_bits::{List, OutOfMemory, Rights, Segment, Text, is_among};
 use vw_elf::SymbolSection;
 
 /// A declared function of a module.
@@ -46,7 +45,7 @@ pub(crate) fn read_functions(
     sections: &[SymbolSection],
 ) -> Result<List<Function>, ModuleError>
     requires inside { AreInside (length bytes.now) sections.now }
-    requires small { AreBounded (2 ^ 32) segments.now }
+    requires small { AreBounded (2 ^ 64) segments.now }
     ensures ok { IfOk result (λ functions. functions ≡ functions_of bytes.now (symbols_for bytes.now sections.now Role.Function)) }
     ensures rules { OnOk result (AllHold (function_rules bytes.now segments.now (symbols_for bytes.now sections.now Role.Function))) }
     ensures fault { IfErr result (Names (lowest_broken 27 (function_rules bytes.now segments.now (symbols_for bytes.now sections.now Role.Function)))) }
@@ -66,7 +65,7 @@ fn check_symbols(
     segments: &[Segment],
     symbols: &[SymbolEntry],
 ) -> Result<Vec<SymbolEntry>, ModuleError>
-    requires { AreBounded (2 ^ 32) segments.now }
+    requires { AreBounded (2 ^ 64) segments.now }
     ensures ok { IfOk result (λ functions. functions.items ≡ by_address symbols.now) }
     ensures rules { OnOk result (AllHold (function_rules bytes.now segments.now symbols.now)) }
     ensures fault { IfErr result (Names (lowest_broken 27 (function_rules bytes.now segments.now symbols.now))) }

@@ -6,11 +6,9 @@
 
 mod calls;
 mod faults;
-mod fields;
 mod functions;
 mod laws;
 mod layout;
-mod places;
 mod symbols;
 mod tables;
 

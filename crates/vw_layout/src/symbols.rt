@@ -1,12 +1,10 @@
 ghost use Rattle.std.specs.Prelude.{◌≡◌, ◌+◌, ◌*◌, ◌≤◌, ◌++◌, length, take, drop, filter, option_copied, IfOk, OnOk};
-ghost use Rattle.vw_bits.specs.Symbols.{is_defined};
 ghost use Rattle.vw_layout.specs.Bounds.{AreInside};
-ghost use Rattle.vw_layout.specs.Symbols.{distinct_sections, entry_at, section_symbols, symbols_for, strings_of, name_of, short_string, is_function, is_tables_symbol, has_role};
+ghost use Rattle.vw_layout.specs.Symbols.{distinct_sections, entry_at, section_symbols, symbols_for, strings_of, name_of, is_function, is_tables_symbol, has_role};
 
-use crate::fields::{u8_at, u16_at, u32_at, u64_at};
 use indexmap::IndexSet;
 use std::alloc::Global;
-use vw_bits::{OutOfMemory, Symbol};
+use vw_bits::{OutOfMemory, Sym, Symbol, short_string_at};
 use vw_elf::SymbolSection;
 
 /// A symbol of a section of symbols, with the string table that holds its name.
@@ -29,17 +27,9 @@ pub enum Role {
     Tables,
 }
 
-const SYMBOL_SIZE: u64 = 24;
-
 const STT_OBJECT: u8 = 1;
 
 const STT_FUNC: u8 = 2;
-
-/// The last section index below SHN_LORESERVE.
-const SHN_LAST: u16 = 65_279;
-
-/// The greatest length of a name, in bytes.
-const MAX_NAME: usize = 1024;
 
 const TABLES_NAME: &[u8] = b"lucet_tables";
 
@@ -85,7 +75,7 @@ fn append_section(
     ensures { OnOk result (symbols.new.items ≡ symbols.old.items ++ filter (has_role bytes.now role) (section_symbols bytes.now section.now)) }
 {
     for index in 0..section.count {
-        let entry = entry_at(bytes, section, section.offset + SYMBOL_SIZE * index);
+        let entry = entry_at(bytes, section, section.offset + Sym::SIZE * index);
         if has_role(bytes, role, &entry) {
             symbols.push(entry)?;
         }
@@ -93,20 +83,13 @@ fn append_section(
     Ok(())
 }
 
-#[tactic(auto, unfolding(crate::specs::Symbols::entry_at, vw_bits::specs::Symbols::symbol_at))]
+#[tactic(auto, unfolding(crate::specs::Symbols::entry_at))]
 fn entry_at(bytes: &[u8], section: &SymbolSection, at: u64) -> SymbolEntry
     requires { at + 24 ≤ length bytes.now }
     ensures { result ≡ entry_at bytes.now section.now at }
 {
     SymbolEntry {
-        symbol: Symbol {
-            name: u32_at(bytes, at),
-            info: u8_at(bytes, at + 4),
-            shndx: u16_at(bytes, at + 6),
-            value: u64_at(bytes, at + 8),
-            size: u64_at(bytes, at + 16),
-            at,
-        },
+        symbol: Symbol::read(bytes, at),
         strings_at: section.strings_at,
         strings_size: section.strings_size,
     }
@@ -124,14 +107,14 @@ fn has_role(bytes: &[u8], role: Role, entry: &SymbolEntry) -> bool
 fn is_function(entry: &SymbolEntry) -> bool
     ensures { result ≡ is_function entry.now }
 {
-    is_defined(&entry.symbol) && entry.symbol.info % 16 == STT_FUNC && entry.symbol.size >= 1
+    entry.symbol.is_defined() && entry.symbol.symbol_type() == STT_FUNC && entry.symbol.size >= 1
 }
 
 #[tactic(auto, unfolding(crate::specs::Symbols::is_tables_symbol))]
 fn is_tables_symbol(bytes: &[u8], entry: &SymbolEntry) -> bool
     ensures { result ≡ is_tables_symbol bytes.now entry.now }
 {
-    if !is_defined(&entry.symbol) || entry.symbol.info % 16 != STT_OBJECT {
+    if !entry.symbol.is_defined() || entry.symbol.symbol_type() != STT_OBJECT {
         return false;
     }
     match name_of(bytes, entry) {
@@ -140,22 +123,12 @@ fn is_tables_symbol(bytes: &[u8], entry: &SymbolEntry) -> bool
     }
 }
 
-fn is_defined(symbol: &Symbol) -> bool
-    ensures { result ≡ is_defined symbol.now }
-{
-    1 <= symbol.shndx && symbol.shndx <= SHN_LAST
-}
-
 // A symbol's name, where it ends inside the string table after at most 1,024 bytes.
+#[tactic(auto, unfolding(crate::specs::Symbols::name_of))]
 pub(crate) fn name_of<'a>(bytes: &'a [u8], entry: &SymbolEntry) -> Option<&'a [u8]>
     ensures { option_copied result ≡ name_of bytes.now entry.now }
 {
-    let strings = strings_of(bytes, entry);
-    let at = entry.symbol.name as usize;
-    if at > strings.len() {
-        return None;
-    }
-    short_string(&strings[at..])
+    short_string_at(strings_of(bytes, entry), entry.symbol.name)
 }
 
 // The bytes of the string table of a symbol's section.
@@ -178,16 +151,4 @@ fn up_to(bytes: &[u8], size: u64) -> &[u8]
     ensures { result.now ≡ take size bytes.now }
 {
     &bytes[..(size as usize).min(bytes.len())]
-}
-
-// The bytes before the first zero byte, at most 1,024.
-fn short_string(rest: &[u8]) -> Option<&[u8]>
-    ensures { option_copied result ≡ short_string rest.now }
-{
-    for index in 0..rest.len().min(MAX_NAME + 1) {
-        if rest[index] == 0 {
-            return Some(&rest[..index]);
-        }
-    }
-    None
 }

@@ -3,7 +3,7 @@ ghost use Rattle.std.specs.List.{find, list_any, flat_map};
 ghost use Rattle.vw_bits.specs.Headers.{table, is_readable, is_executable};
 ghost use Rattle.vw_bits.specs.Places.{in_file_part};
 ghost use Rattle.vw_bits.specs.Rules.{lowest_broken, AllHold};
-ghost use Rattle.vw_dynamic.specs.Bounds.{AreBounded};
+ghost use Rattle.vw_bits.specs.Bounds.{AreBounded};
 ghost use Rattle.vw_layout.specs.Faults.{Names, Tells};
 ghost use Rattle.vw_layout.specs.Functions.{symbol_offset};
 ghost use Rattle.vw_layout.specs.Calls.{is_ordinary};
@@ -12,12 +12,11 @@ ghost use Rattle.vw_layout.specs.Spans.{span_at, entries_in, table_in, IsLow, Ar
 
 use crate::calls::{call_target, is_probe};
 use crate::faults::refuse;
-use crate::places::{file_offset, is_among};
 use crate::symbols::SymbolEntry;
 use crate::{CallTarget, Function, ModuleError};
 use bitflags::Flags;
 use std::alloc::Global;
-use vw_bits::{List, OutOfMemory, Rights, Segment};
+use vw_bits::{List, OutOfMemory, Rights, Segment, file_offset, is_among};
 use vw_image::{Image, Word};
 
 /// A table of code pointers of a module.
@@ -94,7 +93,7 @@ pub(crate) fn read_tables(
     functions: &[Function],
     symbols: &[SymbolEntry],
 ) -> Result<List<TableInfo>, ModuleError>
-    requires bounded { AreBounded (2 ^ 32) image.now.segments }
+    requires bounded { AreBounded (2 ^ 64) image.now.segments }
     requires ascend { Ascend functions.now }
     requires few { length functions.now ≤ 65536 }
     ensures ok { IfOk result (λ tables. tables ≡ tables_of image.now symbols.now) }
@@ -144,7 +143,7 @@ fn agrees(first: &SymbolEntry, entry: &SymbolEntry) -> bool
 
 // Rule 33, of the range: the pairs that the first symbol of the tables names.
 fn locate_pairs(segments: &[Segment], symbols: &[SymbolEntry]) -> Result<Pairs, ModuleError>
-    requires { AreBounded (2 ^ 32) segments.now }
+    requires { AreBounded (2 ^ 64) segments.now }
     ensures pairs { IfOk result (λ pairs. pairs_of symbols.now ≡ table pairs.start 16 pairs.count) }
     ensures below { IfOk result (λ pairs. pairs.start + 16 * pairs.count ≤ 2 ^ 32) }
     ensures holds { OnOk result (range_rule segments.now (first_of symbols.now) ≡ None) }
@@ -198,7 +197,7 @@ fn holds_data(segment: &Segment, address: u64, size: u64) -> bool
 
 // The file offset of the pair or entry at an address.
 fn place_of(image: &Image, address: Option<u64>) -> Option<u64>
-    requires { AreBounded (2 ^ 32) image.now.segments }
+    requires { AreBounded (2 ^ 64) image.now.segments }
     ensures { result ≡ place_of image.now.segments address }
 {
     match address {

@@ -6,7 +6,7 @@ use Rattle.vw_bits.specs.Headers.{is_readable, segments_of}
 use Rattle.vw_bits.specs.HeaderRules.{header_fault}
 use Rattle.vw_bits.specs.Places.{is_among, in_memory}
 use Rattle.vw_bits.specs.declared.records.Segment.{Segment}
-use Rattle.vw_image.specs.Bounds.{AreBounded}
+use Rattle.vw_bits.specs.Bounds.{AreBounded}
 use Rattle.vw_image.specs.Image.{Contents, IsImage, image_of, touches}
 use Rattle.vw_image.specs.Words.{word_at, in_readable}
 use Rattle.vw_image.specs.declared.word.Word.TheVariants.{Plain, Mixed, Outside}

@@ -4,6 +4,3 @@
 mod targets;
 
 pub use targets::target;
-
-#[cfg(test)]
-mod tests;

@@ -1,6 +1,6 @@
 use Rattle.std.proofs.Common.{rules}
 use Rattle.vw_dynamic.specs.Dynamic.{rela_rules}
-use Rattle.vw_dynamic.proofs.FaultLemmas.{names_here, names_next, holds_next}
+use Rattle.vw_bits.proofs.FaultLemmas.{names_here, names_next, holds_next}
 use Rattle.vw_dynamic.proofs.dynamic.bind.Goals as goal
 
 pub returns-in_err-refuse-clause-fault : goal.returns-in_err-refuse-clause-fault

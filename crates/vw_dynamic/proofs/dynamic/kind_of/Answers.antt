@@ -13,7 +13,7 @@ use Rattle.vw_dynamic.specs.Relas.{is_known}
 use Rattle.vw_dynamic.specs.Targets.{adds_addend, is_symbolic, import_of, is_unresolved, symbol_of, name_at, resolves_to, defined_word, kind_of}
 use Rattle.vw_dynamic.specs.declared.faults.DynError.{DynError}
 use Rattle.vw_dynamic.specs.declared.faults.DynError.TheVariants.{Fault}
-use Rattle.vw_dynamic.specs.declared.relas.Rela.{Rela}
+use Rattle.vw_dynamic.specs.declared.relas.RelaEntry.{RelaEntry}
 use Rattle.vw_dynamic.specs.declared.dynamic.RelKind.TheVariants.{Based, Bound}
 use Rattle.vw_dynamic.proofs.dynamic.kind_of.Goals as goal
 
@@ -45,10 +45,10 @@ tells broken at e is fault = rw (is, fault) (refl, refl)
 abbrev is_indirect : Symbol → Bool
 is_indirect s = symbol_type s == 10
 
-abbrev is_plain : Rela → Bool
+abbrev is_plain : RelaEntry → Bool
 is_plain r = not (adds_addend r) || r.addend == 0
 
-module _ (bytes : List ℕ) (segments : List Segment) (strings : List ℕ) (symtab : Option ℕ) (r : Rela) where
+module _ (bytes : List ℕ) (segments : List Segment) (strings : List ℕ) (symtab : Option ℕ) (r : RelaEntry) where
   relative : (imports : List (List ℕ)) → r.kind ≡ 8 → Based r.addend ≡ kind_of bytes segments strings symtab imports r
   unfolding kind_of
   relative imports is =

@@ -7,8 +7,8 @@ use Rattle.vw_dynamic.specs.declared.faults.DynError.TheVariants.{Fault}
 use Rattle.vw_dynamic.specs.Faults.{Names}
 use Rattle.vw_dynamic.specs.Entries.{section_offset, section_entries, ended_entries, entry_list, second_header}
 use Rattle.vw_dynamic.specs.Dynamic.{section_rules}
-use Rattle.vw_dynamic.proofs.PlaceLemmas.{file_offset-inside}
-use Rattle.vw_dynamic.proofs.FaultLemmas.{names_here, names_next}
+use Rattle.vw_bits.proofs.BoundLemmas.{file_offset-inside}
+use Rattle.vw_bits.proofs.FaultLemmas.{names_here, names_next}
 use Rattle.vw_dynamic.proofs.dynamic.read_section.Goals as goal
 
 module _ (bytes : List ℕ) (segments : List Segment) (header : DynHeader) (more : List DynHeader) where

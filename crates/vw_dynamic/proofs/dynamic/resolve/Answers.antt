@@ -14,15 +14,15 @@ use Rattle.vw_dynamic.specs.Relas.{is_known, is_none_kind, rela_offset}
 use Rattle.vw_dynamic.specs.Targets.{is_symbolic, is_unresolved, import_of, imports_of, kind_of, relocation_of, relocations_of}
 use Rattle.vw_dynamic.specs.declared.faults.DynError.{DynError}
 use Rattle.vw_dynamic.specs.declared.faults.DynError.TheVariants.{Fault, Memory}
-use Rattle.vw_dynamic.specs.declared.relas.Rela.{Rela}
+use Rattle.vw_dynamic.specs.declared.relas.RelaEntry.{RelaEntry}
 use Rattle.vw_dynamic.specs.declared.dynamic.Relocation.{Relocation}
 use Rattle.vw_dynamic.specs.declared.dynamic.RelKind.{RelKind}
-use Rattle.vw_dynamic.proofs.ListLemmas.{find_here, find_more}
+use Rattle.vw_bits.proofs.ListLemmas.{find_here, find_more}
 use Rattle.vw_dynamic.proofs.ImportLemmas.{with_import, AreThere, there-more, kept, kept_stay}
 use Rattle.vw_dynamic.proofs.dynamic.resolve.Goals as goal
 use Rattle.vw_dynamic.proofs.dynamic.resolve.Goals.{then-rela-ne-R_NONE+in_ok-kind+in_ok-map_err, else-rela-ne-R_NONE}
 
-abbrev blank : Rela
+abbrev blank : RelaEntry
 blank = record { at = 0; place = 0; symbol = 0; kind = 0; addend = 0 }
 
 -- ---- items of which none passes
@@ -50,40 +50,40 @@ few_more : (names : List (List ℕ)) (name : Option (List ℕ)) → length (with
 few_more names None = omega arith
 few_more names (Some name) = one_longer names name (list_any (bytes_eq name) names)
 
-names_more : (f : Rela → Option (List ℕ)) (before : List Rela) (r : Rela) (old : List (List ℕ)) (name : Option (List ℕ)) → f r ≡ name → old ≡ distinct (filter_map f before) → with_import old name ≡ distinct (filter_map f (before ++ r ∷ []))
+names_more : (f : RelaEntry → Option (List ℕ)) (before : List RelaEntry) (r : RelaEntry) (old : List (List ℕ)) (name : Option (List ℕ)) → f r ≡ name → old ≡ distinct (filter_map f before) → with_import old name ≡ distinct (filter_map f (before ++ r ∷ []))
 unfolding distinct
 names_more f before r old None is same = rw (filter_map-append, is, append-nil) same
 names_more f before r old (Some name) is same = rw (filter_map-append, is, fold-append, ← same) refl
 
 module _ (bytes : List ℕ) (segments : List Segment) (strings : List ℕ) (symtab : Option ℕ) where
-  abbrev f : Rela → Option (List ℕ)
+  abbrev f : RelaEntry → Option (List ℕ)
   f r = import_of bytes segments strings symtab r
 
-  abbrev u : Rela → Bool
+  abbrev u : RelaEntry → Bool
   u r = is_unresolved bytes segments strings symtab r
 
-  kept_more : (names : List (List ℕ)) (before : List Rela) (r : Rela) → (r.kind ≡ 0 → ⊥) → kept bytes segments strings symtab names (before ++ r ∷ []) ≡ kept bytes segments strings symtab names before ++ relocation_of bytes segments strings symtab names r ∷ []
+  kept_more : (names : List (List ℕ)) (before : List RelaEntry) (r : RelaEntry) → (r.kind ≡ 0 → ⊥) → kept bytes segments strings symtab names (before ++ r ∷ []) ≡ kept bytes segments strings symtab names before ++ relocation_of bytes segments strings symtab names r ∷ []
   kept_more names before r some =
       let test : is_none_kind r ≡ false = grind (arith, nat_tests) in
       rw (filter-append, test, map-append) refl
 
-  kept_none : (names : List (List ℕ)) (before : List Rela) (r : Rela) → r.kind ≡ 0 → kept bytes segments strings symtab names (before ++ r ∷ []) ≡ kept bytes segments strings symtab names before
+  kept_none : (names : List (List ℕ)) (before : List RelaEntry) (r : RelaEntry) → r.kind ≡ 0 → kept bytes segments strings symtab names (before ++ r ∷ []) ≡ kept bytes segments strings symtab names before
   kept_none names before r none =
       let test : is_none_kind r ≡ true = grind (arith, nat_tests) in
       rw (filter-append, test, append-nil) refl
 
-  none_names : (r : Rela) → r.kind ≡ 0 → f r ≡ None
+  none_names : (r : RelaEntry) → r.kind ≡ 0 → f r ≡ None
   unfolding import_of
   none_names r none =
       let test : is_symbolic r ≡ false = grind (arith, nat_tests) in
       rw test refl
 
-  none_resolved : (r : Rela) → r.kind ≡ 0 → u r ≡ false
+  none_resolved : (r : RelaEntry) → r.kind ≡ 0 → u r ≡ false
   none_resolved r none =
       let test : is_symbolic r ≡ false = grind (arith, nat_tests) in
       rw test refl
 
-  fault_here : (xs : List Rela) (i : ℕ) (e : DynError) (broken : Bool) → i < length xs → find u (take i xs) ≡ None → u (get_or xs i blank) ≡ broken → Tells 26 (unless (not broken) (get_or xs i blank).at) e → Tells 26 (rela_offset (find u xs)) e
+  fault_here : (xs : List RelaEntry) (i : ℕ) (e : DynError) (broken : Bool) → i < length xs → find u (take i xs) ≡ None → u (get_or xs i blank) ≡ broken → Tells 26 (unless (not broken) (get_or xs i blank).at) e → Tells 26 (rela_offset (find u xs)) e
   fault_here xs i (Memory _) broken inside before here tells = tt
   fault_here xs i (Fault rule offset) false inside before here tells = absurd cc
   fault_here xs i (Fault rule offset) true inside before here tells =
@@ -115,7 +115,7 @@ loop-rela-preserved c =
     let segments = c.args.segments.now in
     let strings = c.args.strings.now in
     let symtab = c.args.symtab in
-    let of : Rela → Option (List ℕ) = import_of bytes segments strings symtab in
+    let of : RelaEntry → Option (List ℕ) = import_of bytes segments strings symtab in
     let step : take (i + 1) xs ≡ take i xs ++ r ∷ [] = take_more xs i blank c.loop-rela-test.true in
     let held = c.loop-rela.invariant in
     elim c.if-rela-ne-R_NONE.branch [
@@ -148,7 +148,7 @@ loop-rela-preserved c =
 pub returns-clause-imports : goal.returns-clause-imports
 unfolding imports_of
 returns-clause-imports c =
-    c.loop-rela.invariant.names ∙ ap (λ (relas : List Rela). distinct (filter_map (import_of c.args.bytes.now c.args.segments.now c.args.strings.now c.args.symtab) relas)) (take_all c.loop-rela.rela-index c.args.relas.now c.loop-rela-test.false)
+    c.loop-rela.invariant.names ∙ ap (λ (relas : List RelaEntry). distinct (filter_map (import_of c.args.bytes.now c.args.segments.now c.args.strings.now c.args.symtab) relas)) (take_all c.loop-rela.rela-index c.args.relas.now c.loop-rela-test.false)
 
 pub returns-clause-relocations : goal.returns-clause-relocations
 unfolding relocations_of imports_of
@@ -158,5 +158,5 @@ returns-clause-relocations c =
     let strings = c.args.strings.now in
     let symtab = c.args.symtab in
     let all = take_all c.loop-rela.rela-index c.args.relas.now c.loop-rela-test.false in
-    let names : c.loop-rela.imports ≡ imports_of bytes segments strings symtab c.args.relas.now = c.loop-rela.invariant.names ∙ ap (λ (relas : List Rela). distinct (filter_map (import_of bytes segments strings symtab) relas)) all in
+    let names : c.loop-rela.imports ≡ imports_of bytes segments strings symtab c.args.relas.now = c.loop-rela.invariant.names ∙ ap (λ (relas : List RelaEntry). distinct (filter_map (import_of bytes segments strings symtab) relas)) all in
     c.loop-rela.invariant.kinds ∙ ap (kept bytes segments strings symtab c.loop-rela.imports) all ∙ ap (λ (n : List (List ℕ)). kept bytes segments strings symtab n c.args.relas.now) names

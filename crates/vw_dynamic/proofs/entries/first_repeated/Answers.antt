@@ -4,6 +4,7 @@ use Rattle.std.proofs.lemmas.List.{take_more, take_all}
 use Rattle.std.proofs.lemmas.List.Folds.{list_any-append}
 use Rattle.std.proofs.lemmas.Bool.Decides.{eqb_tells, nat_tests}
 use Rattle.vw_bits.specs.Rules.{with_earlier}
+use Rattle.vw_bits.proofs.ListLemmas.{or_true}
 use Rattle.vw_bits.proofs.Tables.{find_earlier_more, find_earlier_here}
 use Rattle.vw_dynamic.specs.Entries.{is_single, stands_in, first_repeated}
 use Rattle.vw_dynamic.specs.declared.entries.Entry.{Entry}
@@ -14,10 +15,6 @@ blank = record { at = 0; tag = 0; value = 0 }
 
 abbrev repeats : List Entry × Entry → Bool
 repeats p = is_single p.1.tag && stands_in p.1.tag p.0
-
-or_true : (b : Bool) → (b || true) ≡ true
-or_true true = refl
-or_true false = refl
 
 or_false : (b : Bool) → (b || false) ≡ b
 or_false true = refl

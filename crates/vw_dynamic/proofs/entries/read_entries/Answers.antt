@@ -7,7 +7,8 @@ use Rattle.vw_bits.specs.Headers.{table}
 use Rattle.vw_bits.proofs.Tables.{table-none, table-more}
 use Rattle.vw_dynamic.specs.Entries.{entry_at, is_null, whole_entries, ended_entries}
 use Rattle.vw_dynamic.specs.declared.entries.Entry.{Entry}
-use Rattle.vw_dynamic.proofs.ListLemmas.{before_first-here, before_first-none, table-at}
+use Rattle.vw_bits.proofs.ListLemmas.{before_first-here, before_first-none}
+use Rattle.vw_bits.proofs.Tables.{table-at}
 use Rattle.vw_dynamic.proofs.entries.read_entries.Goals as goal
 
 null : (e : Entry) → e.tag ≡ 0 → is_null e ≡ true

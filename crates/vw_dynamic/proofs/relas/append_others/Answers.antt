@@ -4,7 +4,7 @@ use Rattle.std.proofs.lemmas.List.{append-nil}
 use Rattle.vw_bits.specs.Headers.{table}
 use Rattle.vw_bits.proofs.Tables.{table-none, kept_more}
 use Rattle.vw_dynamic.specs.Relas.{rela_at}
-use Rattle.vw_dynamic.specs.declared.relas.Rela.{Rela}
+use Rattle.vw_dynamic.specs.declared.relas.RelaEntry.{RelaEntry}
 use Rattle.vw_dynamic.proofs.relas.append_others.Goals as goal
 use Rattle.vw_dynamic.proofs.relas.append_others.Goals.{then-not-begins_entry+in_ok-push, else-not-begins_entry}
 
@@ -26,9 +26,9 @@ loop-index-preserved c =
     let test : ℕ → Bool = λ at. not (list_any (λ other. other == at) (table c.args.first.offset 24 c.args.first.count)) in
     elim c.if-not-begins_entry.branch [
       | then-not-begins_entry+in_ok-push w ↦
-          pushed (rela_at bytes) test _ 24 _ at _ _ _ refl c.loop-index.invariant (ap not (sym c.begins_entry.ensures ∙ w.if-not-begins_entry.true)) (ap (λ (v : Vec Rela Global). v.items) w.relas-is ∙ w.in_ok-push.ensures.items ∙ ap (λ (item : Rela). c.loop-index.relas.items ++ item ∷ []) w.rela_at.ensures)
+          pushed (rela_at bytes) test _ 24 _ at _ _ _ refl c.loop-index.invariant (ap not (sym c.begins_entry.ensures ∙ w.if-not-begins_entry.true)) (ap (λ (v : Vec RelaEntry Global). v.items) w.relas-is ∙ w.in_ok-push.ensures.items ∙ ap (λ (item : RelaEntry). c.loop-index.relas.items ++ item ∷ []) w.rela_at.ensures)
       | else-not-begins_entry w ↦
-          ap (λ (v : Vec Rela Global). v.items) w.relas-is ∙ skipped (rela_at bytes) test _ 24 _ at _ _ refl c.loop-index.invariant (ap not (sym c.begins_entry.ensures ∙ w.if-not-begins_entry.false))
+          ap (λ (v : Vec RelaEntry Global). v.items) w.relas-is ∙ skipped (rela_at bytes) test _ 24 _ at _ _ refl c.loop-index.invariant (ap not (sym c.begins_entry.ensures ∙ w.if-not-begins_entry.false))
     ]
 
 pub returns : goal.returns

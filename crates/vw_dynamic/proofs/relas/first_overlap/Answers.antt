@@ -9,33 +9,33 @@ use Rattle.vw_bits.specs.Rules.{with_earlier}
 use Rattle.vw_bits.proofs.Tables.{find_earlier_more, find_earlier_here}
 use Rattle.vw_dynamic.proofs.OverlapLemmas.{IsIndex, places_of, any_places, overlaps_same, IsIndex-more, IsIndex-none}
 use Rattle.vw_dynamic.specs.Relas.{is_none_kind, share_byte, shares, first_overlap}
-use Rattle.vw_dynamic.specs.declared.relas.Rela.{Rela}
+use Rattle.vw_dynamic.specs.declared.relas.RelaEntry.{RelaEntry}
 use Rattle.vw_dynamic.proofs.relas.first_overlap.Goals as goal
 use Rattle.vw_dynamic.proofs.relas.first_overlap.Goals.{then-rela-ne-R_NONE+else-overlaps+in_ok-insert, else-rela-ne-R_NONE}
 
-abbrev blank : Rela
+abbrev blank : RelaEntry
 blank = record { at = 0; place = 0; symbol = 0; kind = 0; addend = 0 }
 
-abbrev overlapping : List Rela × Rela → Bool
+abbrev overlapping : List RelaEntry × RelaEntry → Bool
 overlapping p = not (is_none_kind p.1) && list_any (λ e. not (is_none_kind e) && share_byte e.place p.1.place) p.0
 
-some_kind : (r : Rela) → (r.kind ≡ 0 → ⊥) → is_none_kind r ≡ false
+some_kind : (r : RelaEntry) → (r.kind ≡ 0 → ⊥) → is_none_kind r ≡ false
 some_kind r h = grind (arith, nat_tests)
 
-none_kind : (r : Rela) → r.kind ≡ 0 → is_none_kind r ≡ true
+none_kind : (r : RelaEntry) → r.kind ≡ 0 → is_none_kind r ≡ true
 none_kind r h = grind (arith, nat_tests)
 
-found_by : (g : ℕ → Option ℕ) (before : List Rela) (r : Rela) → (r.kind ≡ 0 → ⊥) → IsIndex g (places_of before) → (shares (g (r.place / 8 - 1)) r.place || shares (g (r.place / 8)) r.place || shares (g (r.place / 8 + 1)) r.place) ≡ overlapping (before, r)
+found_by : (g : ℕ → Option ℕ) (before : List RelaEntry) (r : RelaEntry) → (r.kind ≡ 0 → ⊥) → IsIndex g (places_of before) → (shares (g (r.place / 8 - 1)) r.place || shares (g (r.place / 8)) r.place || shares (g (r.place / 8 + 1)) r.place) ≡ overlapping (before, r)
 found_by g before r some index =
     rw (some_kind r some, any_places (λ p. share_byte p r.place) before) (overlaps_same g (places_of before) r.place index)
 
-passed_by : (before : List Rela) (r : Rela) → r.kind ≡ 0 → overlapping (before, r) ≡ false
+passed_by : (before : List RelaEntry) (r : RelaEntry) → r.kind ≡ 0 → overlapping (before, r) ≡ false
 passed_by before r none = rw (none_kind r none) refl
 
-places-more : (before : List Rela) (r : Rela) → (r.kind ≡ 0 → ⊥) → places_of (before ++ r ∷ []) ≡ places_of before ++ r.place ∷ []
+places-more : (before : List RelaEntry) (r : RelaEntry) → (r.kind ≡ 0 → ⊥) → places_of (before ++ r ∷ []) ≡ places_of before ++ r.place ∷ []
 places-more before r some = rw (filter-append, some_kind r some, map-append) refl
 
-places-none : (before : List Rela) (r : Rela) → r.kind ≡ 0 → places_of (before ++ r ∷ []) ≡ places_of before
+places-none : (before : List RelaEntry) (r : RelaEntry) → r.kind ≡ 0 → places_of (before ++ r ∷ []) ≡ places_of before
 places-none before r none = rw (filter-append, none_kind r none, append-nil) refl
 
 apart_at : (k q : ℕ) → k ≢ q → is_at (nat_cmp k) q ≡ false
@@ -81,5 +81,5 @@ pub returns : goal.returns
 unfolding first_overlap
 returns c =
     let xs = c.args.relas.now in
-    let none : find overlapping (with_earlier xs) ≡ None = ap (λ (ys : List Rela). find overlapping (with_earlier ys)) (sym (take_all c.loop-rela.rela-index xs c.loop-rela-test.false)) ∙ c.loop-rela.invariant.none in
+    let none : find overlapping (with_earlier xs) ≡ None = ap (λ (ys : List RelaEntry). find overlapping (with_earlier ys)) (sym (take_all c.loop-rela.rela-index xs c.loop-rela-test.false)) ∙ c.loop-rela.invariant.none in
     rw none refl

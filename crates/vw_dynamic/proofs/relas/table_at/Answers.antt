@@ -1,6 +1,6 @@
 use Rattle.std.proofs.Common.{refl, sym, ◌∙◌, arith}
 use Rattle.vw_bits.proofs.Tables.{table-none}
-use Rattle.vw_dynamic.proofs.PlaceLemmas.{table_offset-inside}
+use Rattle.vw_dynamic.proofs.BoundLemmas.{table_offset-inside}
 use Rattle.vw_dynamic.proofs.relas.table_at.Goals as goal
 
 pub returns-in-Some-clause-items : goal.returns-in-Some-clause-items

@@ -1,6 +1,6 @@
 use Rattle.std.proofs.Common.{refl, sym}
 use Rattle.vw_dynamic.specs.Targets.{strings_of}
-use Rattle.vw_dynamic.proofs.PlaceLemmas.{table_offset-inside}
+use Rattle.vw_dynamic.proofs.BoundLemmas.{table_offset-inside}
 use Rattle.vw_dynamic.proofs.symbols.strings_of.Goals as goal
 
 pub returns-in-None : goal.returns-in-None

@@ -3,9 +3,9 @@ use Rattle.std.proofs.lemmas.Bool.Decides.{nat_tests}
 use Rattle.vw_bits.specs.Symbols.{symbol_at}
 use Rattle.vw_bits.specs.declared.records.Segment.{Segment}
 use Rattle.vw_bits.specs.declared.records.Symbol.{Symbol}
-use Rattle.vw_dynamic.specs.Bounds.{AreBounded}
+use Rattle.vw_bits.specs.Bounds.{AreBounded}
 use Rattle.vw_dynamic.specs.Targets.{symbol_of, symbol_offset}
-use Rattle.vw_dynamic.proofs.PlaceLemmas.{file_offset-inside}
+use Rattle.vw_bits.proofs.BoundLemmas.{file_offset-inside}
 use Rattle.vw_dynamic.proofs.symbols.symbol_of.Goals as goal
 
 some_case : (bytes : List ℕ) (segments : List Segment) (symtab : Option ℕ) (index : ℕ) → (index ≡ 0 → ⊥) → symbol_of bytes segments symtab index ≡ option_map (symbol_at bytes) (symbol_offset segments symtab index)
@@ -25,8 +25,8 @@ returns-then-index-eq0 c = rw c.if-index-eq0.true refl
 pub returns-in_err-at : goal.returns-in_err-at
 returns-in_err-at c = c.from_residual.ensures ∙ sym (some_case _ _ _ _ c.if-index-eq0.false ∙ ap (option_map (symbol_at c.args.bytes.now)) (sym c.in_err-at.ensures))
 
-pub symbol_at-requires : goal.symbol_at-requires
-symbol_at-requires c = inside _ _ _ _ _ c.requires.inside (sym c.in_ok-at.ensures)
+pub read-requires : goal.read-requires
+read-requires c = inside _ _ _ _ _ c.requires.inside (sym c.in_ok-at.ensures)
 
 pub returns : goal.returns
-returns c = ap (λ (s : Symbol). Some s) c.symbol_at.ensures ∙ sym (some_case _ _ _ _ c.if-index-eq0.false ∙ ap (option_map (symbol_at c.args.bytes.now)) (sym c.in_ok-at.ensures))
+returns c = ap (λ (s : Symbol). Some s) c.read.ensures ∙ sym (some_case _ _ _ _ c.if-index-eq0.false ∙ ap (option_map (symbol_at c.args.bytes.now)) (sym c.in_ok-at.ensures))

@@ -1,6 +1,6 @@
 use Rattle.std.proofs.Common.{rules}
 use Rattle.vw_bits.specs.HeaderRules.{header_rules}
-use Rattle.vw_elf.proofs.FaultLemmas.{names_here, names_next, holds_next}
+use Rattle.vw_bits.proofs.FaultLemmas.{names_here, names_next, holds_next}
 use Rattle.vw_elf.proofs.header.check_header.Goals as goal
 
 pub returns-in_err-refuse-clause-fault : goal.returns-in_err-refuse-clause-fault
@@ -39,6 +39,6 @@ pub returns-clause-ok : goal.returns-clause-ok
 unfolding header_rules
 returns-clause-ok c = search (rules, holds_next) depth 30
 
-pub returns-clause-fault : goal.returns-clause-fault
+pub returns-in_err-refuse-9-clause-fault : goal.returns-in_err-refuse-9-clause-fault
 unfolding header_rules
-returns-clause-fault c = search (rules, names_here, names_next) depth 30
+returns-in_err-refuse-9-clause-fault c = search (rules, names_here, names_next) depth 30

@@ -10,19 +10,19 @@ loop-index-init c = rw table-none refl
 pub returns-then-is_broken : goal.returns-then-is_broken
 unfolding symbol_section_rule section_headers
 returns-then-is_broken c =
-    let header = c.u64_at-table.result + 64 * c.loop-index.index in
-    let place : header ≡ e_shoff c.args.bytes.now + 64 * c.loop-index.index = rw c.u64_at-table.ensures refl in
-    let inside : c.loop-index.index < e_shnum c.args.bytes.now = rw (← c.u16_at-index-end.ensures) c.loop-index-test.true in
-    sym (find_table_here _ _ 64 c.loop-index.index _ header inside place c.loop-index.invariant (sym c.is_broken.ensures ∙ c.if-is_broken.true))
+    let at = c.args.header.now.e_shoff + 64 * c.loop-index.index in
+    let place : at ≡ e_shoff c.args.bytes.now + 64 * c.loop-index.index = rw c.requires.header.shoff refl in
+    let inside : c.loop-index.index < e_shnum c.args.bytes.now = rw (← c.requires.header.shnum) c.loop-index-test.true in
+    sym (find_table_here _ _ 64 c.loop-index.index _ at inside place c.loop-index.invariant (sym c.is_broken.ensures ∙ c.if-is_broken.true))
 
 pub loop-index-preserved : goal.loop-index-preserved
 loop-index-preserved c =
-    let header = c.u64_at-table.result + 64 * c.loop-index.index in
-    let place : header ≡ e_shoff c.args.bytes.now + 64 * c.loop-index.index = rw c.u64_at-table.ensures refl in
-    find_table_more _ _ 64 c.loop-index.index header place c.loop-index.invariant (sym c.is_broken.ensures ∙ c.if-is_broken.false)
+    let at = c.args.header.now.e_shoff + 64 * c.loop-index.index in
+    let place : at ≡ e_shoff c.args.bytes.now + 64 * c.loop-index.index = rw c.requires.header.shoff refl in
+    find_table_more _ _ 64 c.loop-index.index at place c.loop-index.invariant (sym c.is_broken.ensures ∙ c.if-is_broken.false)
 
 pub returns : goal.returns
 unfolding symbol_section_rule section_headers
 returns c =
-    let all : c.loop-index.index ≡ c.u16_at-index-end.result = omega arith in
-    rw (← c.u16_at-index-end.ensures, ← all) (sym c.loop-index.invariant)
+    let all : c.loop-index.index ≡ c.args.header.now.e_shnum = omega arith in
+    rw (← c.requires.header.shnum, ← all) (sym c.loop-index.invariant)

@@ -1,8 +1,9 @@
-use Rattle.std.proofs.Common.{◌≡◌, ℕ, ◌==◌, ◌+◌, ◌*◌, ◌++◌, [], ◌∷◌, Bool, refl, ap, ◌∙◌, arith}
+use Rattle.std.proofs.Common.{◌≡◌, ℕ, ◌==◌, ◌+◌, ◌*◌, Bool, refl, sym, ◌∙◌, arith}
 use Rattle.vw_bits.specs.Headers.{p_type, e_phoff, dyn_header_at, program_headers, dynamics_of}
-use Rattle.vw_bits.proofs.Tables.{table-none, kept_push, kept_skip, test_passes, test_fails}
+use Rattle.vw_bits.proofs.Tables.{table-none}
+use Rattle.vw_elf.proofs.KeptLemmas.{kept_some, kept_none}
 use Rattle.vw_elf.proofs.segments.read_dynamics.Goals as goal
-use Rattle.vw_elf.proofs.segments.read_dynamics.Goals.{then-u32_at-eq-PT_DYNAMIC+in_ok-push, else-u32_at-eq-PT_DYNAMIC}
+use Rattle.vw_elf.proofs.segments.read_dynamics.Goals.{in-Some+in_ok-push, in_default}
 
 pub loop-index-init : goal.loop-index-init
 loop-index-init c = rw table-none c.new-dynamics.ensures
@@ -10,18 +11,18 @@ loop-index-init c = rw table-none c.new-dynamics.ensures
 pub loop-index-preserved : goal.loop-index-preserved
 loop-index-preserved c =
     let bytes = c.args.bytes.now in
-    let header = c.u64_at-table.result + 56 * c.loop-index.index in
-    let place : header ≡ e_phoff bytes + 56 * c.loop-index.index = rw c.u64_at-table.ensures refl in
-    let test : ℕ → Bool = λ header. p_type bytes header == 2 in
-    elim c.if-u32_at-eq-PT_DYNAMIC.branch [
-      | then-u32_at-eq-PT_DYNAMIC+in_ok-push w ↦
-          kept_push (dyn_header_at bytes) test _ 56 _ header _ _ place c.loop-index.invariant (test_passes _ _ 2 c.u32_at.ensures w.if-u32_at-eq-PT_DYNAMIC.true) (w.dynamics-is ∙ w.in_ok-push.ensures.ok ∙ ap (λ (item : _). c.loop-index.dynamics ++ item ∷ []) w.dyn_header_at.ensures)
-      | else-u32_at-eq-PT_DYNAMIC w ↦
-          rw w.dynamics-is (kept_skip (dyn_header_at bytes) test _ 56 _ header _ place c.loop-index.invariant (test_fails _ _ 2 c.u32_at.ensures w.if-u32_at-eq-PT_DYNAMIC.false))
+    let at = c.args.header.now.e_phoff + 56 * c.loop-index.index in
+    let place : at ≡ e_phoff bytes + 56 * c.loop-index.index = rw c.requires.header.phoff refl in
+    let test : ℕ → Bool = λ at. p_type bytes at == 2 in
+    elim c.match-dyn_header_at.branch [
+      | in-Some+in_ok-push w ↦
+          kept_some (dyn_header_at bytes) test _ 56 _ at w.in-Some.dynamic _ _ place c.loop-index.invariant w.in-Some.ensures (w.dynamics-is ∙ w.in_ok-push.ensures.ok)
+      | in_default w ↦
+          rw w.dynamics-is (kept_none (dyn_header_at bytes) test _ 56 _ at _ place c.loop-index.invariant (sym w.in_default.is ∙ c.dyn_header_at.ensures))
     ]
 
 pub returns : goal.returns
 unfolding dynamics_of program_headers
 returns c =
-    let all : c.loop-index.index ≡ c.u16_at-index-end.result = omega arith in
-    rw (← c.u16_at-index-end.ensures, ← all) c.loop-index.invariant
+    let all : c.loop-index.index ≡ c.args.header.now.e_phnum = omega arith in
+    rw (← c.requires.header.phnum, ← all) c.loop-index.invariant

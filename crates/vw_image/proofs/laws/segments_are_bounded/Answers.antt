@@ -1,4 +1,4 @@
-use Rattle.vw_image.proofs.Segments.{AreBounded-from_rules}
+use Rattle.vw_bits.proofs.BoundLemmas.{AreBounded-from_rules}
 use Rattle.vw_image.proofs.laws.segments_are_bounded.Goals as goal
 
 pub returns : goal.returns

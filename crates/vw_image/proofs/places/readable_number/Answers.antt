@@ -4,10 +4,11 @@ use Rattle.vw_bits.specs.Fields.{load}
 use Rattle.vw_bits.specs.Headers.{is_readable}
 use Rattle.vw_bits.specs.Places.{in_memory}
 use Rattle.vw_bits.specs.declared.records.Segment.{Segment}
-use Rattle.vw_image.specs.Bounds.{IsBounded, AllApart}
+use Rattle.vw_bits.specs.Bounds.{IsBounded}
+use Rattle.vw_image.specs.Bounds.{AllApart}
 use Rattle.vw_image.specs.Image.{segment_byte, memory_byte}
 use Rattle.vw_image.specs.Words.{in_readable}
-use Rattle.vw_image.proofs.Lists.{find-any, find-holds, find-passes, and_right}
+use Rattle.vw_bits.proofs.ListLemmas.{find-any, find-holds, find-passes, and_right}
 use Rattle.vw_image.proofs.Segments.{load-in}
 use Rattle.vw_image.proofs.places.readable_number.Goals as goal
 

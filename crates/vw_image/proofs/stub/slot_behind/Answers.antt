@@ -1,9 +1,9 @@
 use Rattle.std.proofs.Common.{◌≡◌, ℕ, ◌+◌, ◌<◌, ◌≤◌, ◌^◌, ◌%◌, length, true, sym, ap, ◌∙◌, rules, arith}
 use Rattle.vw_bits.specs.Places.{in_memory}
 use Rattle.vw_bits.specs.declared.records.Segment.{Segment}
-use Rattle.vw_image.specs.Bounds.{IsBounded}
-use Rattle.vw_image.proofs.Lists.{find-holds}
-use Rattle.vw_image.proofs.Segments.{among}
+use Rattle.vw_bits.specs.Bounds.{IsBounded}
+use Rattle.vw_bits.proofs.ListLemmas.{find-holds}
+use Rattle.vw_bits.proofs.BoundLemmas.{among}
 use Rattle.vw_image.proofs.Stubs.{holds, held_by, front_held, back_held, no_segment, other_bytes, these_bytes}
 use Rattle.vw_image.proofs.stub.slot_behind.Goals as goal
 

@@ -3,7 +3,7 @@ use Rattle.std.proofs.lemmas.List.{at_drop_more, at_drop_all}
 use Rattle.std.proofs.lemmas.Bool.Decides.{nat_tests}
 use Rattle.vw_image.specs.Image.{segment_byte}
 use Rattle.vw_image.specs.Stubs.{spells}
-use Rattle.vw_image.proofs.Segments.{among}
+use Rattle.vw_bits.proofs.BoundLemmas.{among}
 use Rattle.vw_image.proofs.stub.spells.Goals as goal
 
 next : (f : ℕ → ℕ) (a x : ℕ) (xs : List ℕ) (i : ℕ) → i < length xs → x ≡ f a → x ≡ get_or xs i 0 → spells f (a + 1) (drop (i + 1) xs) ≡ spells f a (drop i xs)

@@ -7,7 +7,7 @@ use Rattle.vw_layout.specs.Functions.{function_rules, first_at, addresses_of, by
 use Rattle.vw_layout.specs.declared.symbols.SymbolEntry.{SymbolEntry}
 use Rattle.vw_layout.proofs.AddressLemmas.{resized_same, order_same, Rises-by_address, All-by_address}
 use Rattle.vw_layout.proofs.ShortLemmas.{AreShort-from_rule}
-use Rattle.vw_layout.proofs.FaultLemmas.{names_here, names_next, holds_next}
+use Rattle.vw_bits.proofs.FaultLemmas.{names_here, names_next, holds_next}
 use Rattle.vw_layout.proofs.functions.check_symbols.Goals as goal
 
 pub returns-in_err-refuse-clause-fault : goal.returns-in_err-refuse-clause-fault

@@ -5,7 +5,7 @@ use Rattle.vw_bits.specs.Headers.{segments_of}
 use Rattle.vw_bits.specs.Rules.{lowest_broken, AllHold}
 use Rattle.vw_elf.specs.SymbolSections.{symbol_sections}
 use Rattle.vw_elf.specs.declared.sections.SymbolSection.{SymbolSection}
-use Rattle.vw_dynamic.specs.Bounds.{AreBounded}
+use Rattle.vw_bits.specs.Bounds.{AreBounded}
 use Rattle.vw_dynamic.specs.Dynamic.{file_relocations}
 use Rattle.vw_image.specs.Image.{image_of}
 use Rattle.vw_layout.specs.Bounds.{AreInside}
@@ -29,8 +29,8 @@ inside_of bytes lent sections same are inside =
     let Q : List ℕ → Type 0 = λ bs. AreInside (length bs) sections in
     subst Q (sym same) (subst P (sym are) (inside_distinct (length bytes) (symbol_sections bytes) inside))
 
-low_of : (bytes : List ℕ) (segments : List Segment) → segments ≡ segments_of bytes → AreBounded (2 ^ 32) (segments_of bytes) → AreBounded (2 ^ 32) segments
-low_of bytes segments are low = let P : List Segment → Type 0 = λ ss. AreBounded (2 ^ 32) ss in subst P (sym are) low
+low_of : (bytes : List ℕ) (segments : List Segment) → segments ≡ segments_of bytes → AreBounded (2 ^ 64) (segments_of bytes) → AreBounded (2 ^ 64) segments
+low_of bytes segments are low = let P : List Segment → Type 0 = λ ss. AreBounded (2 ^ 64) ss in subst P (sym are) low
 
 pub read_functions-requires-clause-inside : goal.read_functions-requires-clause-inside
 read_functions-requires-clause-inside c = inside_of c.args.image.bytes c.bytes.result.now c.args.sections.now c.bytes.ensures.lent c.requires.sections (AreInside-from_rules c.args.image.bytes c.bytes.ensures.whole.headers)

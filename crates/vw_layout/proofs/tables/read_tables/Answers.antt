@@ -6,7 +6,7 @@ use Rattle.vw_bits.specs.Headers.{table}
 use Rattle.vw_bits.specs.Rules.{lowest_broken, AllHold}
 use Rattle.vw_bits.specs.declared.records.Segment.{Segment}
 use Rattle.vw_image.specs.Image.{Contents}
-use Rattle.vw_layout.specs.Faults.{Names, Tells}
+use Rattle.vw_layout.specs.Faults.{fault_in, Names, Tells}
 use Rattle.vw_layout.specs.Functions.{symbol_offset}
 use Rattle.vw_layout.specs.Tables.{first_of, first_disagreeing, range_rule, pair_rule, table_rule, entry_rule, pairs_of, place_of, table_at, table_rules, tables_of, is_table_entry}
 use Rattle.vw_layout.specs.Spans.{span_at, table_in, AreLow, entries_in}
@@ -14,7 +14,7 @@ use Rattle.vw_layout.specs.declared.symbols.SymbolEntry.{SymbolEntry}
 use Rattle.vw_layout.specs.declared.functions.Function.{Function}
 use Rattle.vw_layout.specs.declared.tables.Span.{Span}
 use Rattle.vw_layout.specs.declared.faults.ModuleError.{ModuleError}
-use Rattle.vw_layout.proofs.FaultLemmas.{names_here, names_next, holds_next}
+use Rattle.vw_bits.proofs.FaultLemmas.{names_here, names_next, holds_next}
 use Rattle.vw_layout.proofs.ModuleLemmas.{tells_first}
 use Rattle.vw_layout.proofs.TableLemmas.{tables_found, entries_found, tables_same, nowhere, AreLow-from_rule}
 use Rattle.vw_layout.proofs.tables.read_tables.Goals as goal
@@ -28,25 +28,25 @@ module _ (image : Contents) (functions : List Function) (symbols : List SymbolEn
   rules_are = rw are refl
 
   in_first : (found : Option ℕ) (e : ModuleError) → found ≡ symbol_offset (first_disagreeing symbols) → Tells 32 found e → Names (lowest_broken 32 (table_rules image functions symbols)) e
-  in_first found e is tells = rw rules_are (names_here 32 found _ _ e is tells)
+  in_first found e is tells = rw rules_are (names_here 32 found _ _ (fault_in e) is tells)
 
   module _ (first : Option ℕ) (agree : first ≡ symbol_offset (first_disagreeing symbols)) (none : first ≡ None) where
     in_range : (e : ModuleError) → Tells 33 range e → Names (lowest_broken 32 (table_rules image functions symbols)) e
-    in_range e tells = rw rules_are (names_next 32 first _ _ e agree none (names_here 33 (option_or range (pair_rule image ps)) _ _ e refl (tells_first 33 range (pair_rule image ps) e tells)))
+    in_range e tells = rw rules_are (names_next 32 first _ _ (fault_in e) agree none (names_here 33 (option_or range (pair_rule image ps)) _ _ (fault_in e) refl (tells_first 33 range (pair_rule image ps) e tells)))
 
     module _ (placed : range ≡ None) where
       second_is : (second : Option ℕ) → second ≡ pair_rule image ps → second ≡ option_or range (pair_rule image ps)
       second_is second is = rw placed is
 
       in_pairs : (second : Option ℕ) (e : ModuleError) → second ≡ pair_rule image ps → Tells 33 second e → Names (lowest_broken 32 (table_rules image functions symbols)) e
-      in_pairs second e is tells = rw rules_are (names_next 32 first _ _ e agree none (names_here 33 second _ _ e (second_is second is) tells))
+      in_pairs second e is tells = rw rules_are (names_next 32 first _ _ (fault_in e) agree none (names_here 33 second _ _ (fault_in e) (second_is second is) tells))
 
       module _ (second : Option ℕ) (pairs : second ≡ pair_rule image ps) (paired : second ≡ None) where
         in_tables : (third : Option ℕ) (e : ModuleError) → third ≡ table_rule image ps → Tells 34 third e → Names (lowest_broken 32 (table_rules image functions symbols)) e
-        in_tables third e is tells = rw rules_are (names_next 32 first _ _ e agree none (names_next 33 second _ _ e (second_is second pairs) paired (names_here 34 third _ _ e is tells)))
+        in_tables third e is tells = rw rules_are (names_next 32 first _ _ (fault_in e) agree none (names_next 33 second _ _ (fault_in e) (second_is second pairs) paired (names_here 34 third _ _ (fault_in e) is tells)))
 
         in_entries : (third fourth : Option ℕ) (e : ModuleError) → third ≡ table_rule image ps → third ≡ None → fourth ≡ entry_rule image functions ps → Tells 35 fourth e → Names (lowest_broken 32 (table_rules image functions symbols)) e
-        in_entries third fourth e tables tabled is tells = rw rules_are (names_next 32 first _ _ e agree none (names_next 33 second _ _ e (second_is second pairs) paired (names_next 34 third _ _ e tables tabled (names_here 35 fourth _ _ e is tells))))
+        in_entries third fourth e tables tabled is tells = rw rules_are (names_next 32 first _ _ (fault_in e) agree none (names_next 33 second _ _ (fault_in e) (second_is second pairs) paired (names_next 34 third _ _ (fault_in e) tables tabled (names_here 35 fourth _ _ (fault_in e) is tells))))
 
         none_broken : (third fourth : Option ℕ) → third ≡ table_rule image ps → third ≡ None → fourth ≡ entry_rule image functions ps → fourth ≡ None → AllHold (table_rules image functions symbols)
         none_broken third fourth tables tabled is entered = rw rules_are (holds_next 1 first _ _ agree none (holds_next 2 second _ _ (second_is second pairs) paired (holds_next 3 third _ _ tables tabled (holds_next 4 fourth _ _ is entered refl))))

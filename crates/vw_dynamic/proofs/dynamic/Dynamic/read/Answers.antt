@@ -8,8 +8,8 @@ use Rattle.vw_bits.specs.Rules.{lowest_broken, AllHold}
 use Rattle.vw_bits.specs.declared.records.Segment.{Segment}
 use Rattle.vw_bits.specs.declared.records.DynHeader.{DynHeader}
 use Rattle.vw_bits.proofs.RuleLemmas.{lowest-shift}
-use Rattle.vw_dynamic.specs.Bounds.{AreBounded}
-use Rattle.vw_dynamic.specs.Faults.{Names}
+use Rattle.vw_bits.specs.Bounds.{AreBounded}
+use Rattle.vw_dynamic.specs.Faults.{fault_in, Names}
 use Rattle.vw_dynamic.specs.Entries.{section_entries}
 use Rattle.vw_dynamic.specs.Directory.{value_of, directory_of, relocation_offsets}
 use Rattle.vw_dynamic.specs.Relas.{relas_of}
@@ -18,10 +18,11 @@ use Rattle.vw_dynamic.specs.Targets.{strings_of, imports_of, relocations_of}
 use Rattle.vw_dynamic.specs.Dynamic.{section_rules, entry_rules, rela_rules, rules_behind, entries_of, dynamic_rules, dynamic_fault, file_imports, file_relocations, imports_in, relocations_in}
 use Rattle.vw_dynamic.specs.declared.entries.Entry.{Entry}
 use Rattle.vw_dynamic.specs.declared.directory.Directory.{Directory}
-use Rattle.vw_dynamic.specs.declared.relas.Rela.{Rela}
+use Rattle.vw_dynamic.specs.declared.relas.RelaEntry.{RelaEntry}
 use Rattle.vw_dynamic.specs.declared.faults.DynError.{DynError}
-use Rattle.vw_dynamic.proofs.BoundLemmas.{AreBounded-from_rules, length-from_rules, AreBounded-widen, relas-few}
-use Rattle.vw_dynamic.proofs.FaultLemmas.{names_front, names_behind, holds_append}
+use Rattle.vw_bits.proofs.BoundLemmas.{AreBounded-from_rules, length-from_rules, AreBounded-widen}
+use Rattle.vw_dynamic.proofs.BoundLemmas.{relas-few}
+use Rattle.vw_bits.proofs.FaultLemmas.{names_front, names_behind, holds_append}
 use Rattle.vw_dynamic.proofs.dynamic.Dynamic.read.Goals as goal
 
 none_fault : (bytes : List ℕ) → dynamics_of bytes ≡ [] → dynamic_fault bytes ≡ None
@@ -42,7 +43,7 @@ module _ (bytes : List ℕ) (segments : List Segment) (header : DynHeader) (more
   fault_is = rw (← are, some) refl
 
   in_section : (e : DynError) → Names (lowest_broken 15 (section_rules bytes segments header more)) e → Names (dynamic_fault bytes) e
-  in_section e names = rw fault_is (names_front 15 (section_rules bytes segments header more) _ e names)
+  in_section e names = rw fault_is (names_front 15 (section_rules bytes segments header more) _ (fault_in e) names)
 
   module _ (entries : List Entry) (read : section_entries bytes segments header ≡ Some entries) (sections : AllHold (section_rules bytes segments header more)) where
     behind_is : dynamic_fault bytes ≡ lowest_broken 15 (section_rules bytes segments header more ++ rules_behind bytes segments entries)
@@ -53,14 +54,14 @@ module _ (bytes : List ℕ) (segments : List Segment) (header : DynHeader) (more
     sections_count = refl
 
     in_entries : (e : DynError) → Names (lowest_broken 18 (entry_rules segments entries)) e → Names (dynamic_fault bytes) e
-    in_entries e names = rw behind_is (names_behind 15 18 (section_rules bytes segments header more) _ e sections sections_count (names_front 18 (entry_rules segments entries) _ e names))
+    in_entries e names = rw behind_is (names_behind 15 18 (section_rules bytes segments header more) _ (fault_in e) sections sections_count (names_front 18 (entry_rules segments entries) _ (fault_in e) names))
 
     entries_count : 18 + length (entry_rules segments entries) ≡ 23
     unfolding entry_rules
     entries_count = refl
 
     in_relas : (e : DynError) → AllHold (entry_rules segments entries) → Names (lowest_broken 23 (rela_rules bytes segments (strings_of bytes segments (directory_of entries)) (directory_of entries).symtab (relas_of bytes segments (directory_of entries)))) e → Names (dynamic_fault bytes) e
-    in_relas e hold names = rw behind_is (names_behind 15 18 (section_rules bytes segments header more) _ e sections sections_count (names_behind 18 23 (entry_rules segments entries) _ e hold entries_count names))
+    in_relas e hold names = rw behind_is (names_behind 15 18 (section_rules bytes segments header more) _ (fault_in e) sections sections_count (names_behind 18 23 (entry_rules segments entries) _ (fault_in e) hold entries_count names))
 
     none_broken : AllHold (entry_rules segments entries) → AllHold (rela_rules bytes segments (strings_of bytes segments (directory_of entries)) (directory_of entries).symtab (relas_of bytes segments (directory_of entries))) → dynamic_fault bytes ≡ None
     none_broken hold last =
@@ -81,10 +82,10 @@ module _ (bytes : List ℕ) (segments : List Segment) (header : DynHeader) (more
 inside_of : (bytes : List ℕ) (segments : List Segment) → header_fault bytes ≡ None → segments ≡ segments_of bytes → AreBounded (length bytes) segments
 inside_of bytes segments headers are = let P : List Segment → Type 0 = λ s. AreBounded (length bytes) s in subst P (sym are) (AreBounded-from_rules bytes headers)
 
-small_of : (bytes : List ℕ) (segments : List Segment) → header_fault bytes ≡ None → segments ≡ segments_of bytes → AreBounded (2 ^ 32) segments
+small_of : (bytes : List ℕ) (segments : List Segment) → header_fault bytes ≡ None → segments ≡ segments_of bytes → AreBounded (2 ^ 64) segments
 small_of bytes segments headers are =
     let few = length-from_rules bytes headers in
-    AreBounded-widen (length bytes) segments (omega (arith, few)) (inside_of bytes segments headers are)
+    AreBounded-widen (length bytes) (2 ^ 64) segments (omega (arith, few)) (inside_of bytes segments headers are)
 
 empty : (ds : List DynHeader) → (length ds == 0) ≡ true → ds ≡ []
 empty [] is = refl
@@ -133,23 +134,23 @@ bind-requires-clause-inside c = inside_of _ _ c.requires.headers c.requires.segm
 pub bind-requires-clause-small : goal.bind-requires-clause-small
 bind-requires-clause-small c = small_of _ _ c.requires.headers c.requires.segments
 
-module _ (bytes : List ℕ) (segments : List Segment) (entries : List Entry) (d : Directory) (strings : List ℕ) (relas : List Rela) (is : d ≡ directory_of entries) (text : strings ≡ strings_of bytes segments d) (read : relas ≡ relas_of bytes segments d) where
+module _ (bytes : List ℕ) (segments : List Segment) (entries : List Entry) (d : Directory) (strings : List ℕ) (relas : List RelaEntry) (is : d ≡ directory_of entries) (text : strings ≡ strings_of bytes segments d) (read : relas ≡ relas_of bytes segments d) where
   rules_along : rela_rules bytes segments strings d.symtab relas ≡ rela_rules bytes segments (strings_of bytes segments (directory_of entries)) (directory_of entries).symtab (relas_of bytes segments (directory_of entries))
   rules_along =
       ap (λ (s : List ℕ). rela_rules bytes segments s d.symtab relas) text
-      ∙ ap (λ (r : List Rela). rela_rules bytes segments (strings_of bytes segments d) d.symtab r) read
+      ∙ ap (λ (r : List RelaEntry). rela_rules bytes segments (strings_of bytes segments d) d.symtab r) read
       ∙ ap (λ (x : Directory). rela_rules bytes segments (strings_of bytes segments x) x.symtab (relas_of bytes segments x)) is
 
   imports_along : imports_of bytes segments strings d.symtab relas ≡ imports_in bytes segments (directory_of entries)
   imports_along =
       ap (λ (s : List ℕ). imports_of bytes segments s d.symtab relas) text
-      ∙ ap (λ (r : List Rela). imports_of bytes segments (strings_of bytes segments d) d.symtab r) read
+      ∙ ap (λ (r : List RelaEntry). imports_of bytes segments (strings_of bytes segments d) d.symtab r) read
       ∙ ap (λ (x : Directory). imports_in bytes segments x) is
 
   relocations_along : relocations_of bytes segments strings d.symtab (imports_of bytes segments strings d.symtab relas) relas ≡ relocations_in bytes segments (directory_of entries)
   relocations_along =
       ap (λ (s : List ℕ). relocations_of bytes segments s d.symtab (imports_of bytes segments s d.symtab relas) relas) text
-      ∙ ap (λ (r : List Rela). relocations_of bytes segments (strings_of bytes segments d) d.symtab (imports_of bytes segments (strings_of bytes segments d) d.symtab r) r) read
+      ∙ ap (λ (r : List RelaEntry). relocations_of bytes segments (strings_of bytes segments d) d.symtab (imports_of bytes segments (strings_of bytes segments d) d.symtab r) r) read
       ∙ ap (λ (x : Directory). relocations_in bytes segments x) is
 
 pub returns-in_err-entries-clause-fault : goal.returns-in_err-entries-clause-fault

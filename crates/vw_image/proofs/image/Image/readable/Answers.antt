@@ -6,7 +6,7 @@ use Rattle.vw_bits.specs.declared.records.Segment.{Segment}
 use Rattle.vw_image.specs.Image.{Contents, touches}
 use Rattle.vw_image.specs.Index.{bound_ones}
 use Rattle.vw_image.specs.Words.{in_readable, readable}
-use Rattle.vw_image.proofs.Lists.{find-any}
+use Rattle.vw_bits.proofs.ListLemmas.{find-any}
 use Rattle.vw_image.proofs.Relocations.{touches-any}
 use Rattle.vw_image.proofs.image.Image.readable.Goals as goal
 

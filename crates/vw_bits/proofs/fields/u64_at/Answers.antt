@@ -1,0 +1,5 @@
+use Rattle.vw_bits.proofs.FieldLemmas.{field_at}
+use Rattle.vw_bits.proofs.fields.u64_at.Goals as goal
+
+pub returns : goal.returns
+returns c = rw (← field_at c.args.bytes.now c.args.at 8, ← c.from.ensures) c.read_u64.ensures
