@@ -5,22 +5,7 @@ ghost use Rattle.vw_insn.specs.Effect.{base_value, sum_of, address, relative, ra
 ghost use Rattle.vw_effect.specs.Meaning.{registers_of};
 
 use crate::registers::word_in;
-use crate::words::word_of;
-use vw_insn::{Base, Mem, Reg};
-
-/// The top of the stack.
-pub const AT_RSP: Mem = Mem {
-    base: Base::Reg(Reg::Rsp),
-    index: None,
-    disp: 0,
-};
-
-/// Where a push writes: the eight bytes below the top of the stack.
-pub const BELOW_RSP: Mem = Mem {
-    base: Base::Reg(Reg::Rsp),
-    index: None,
-    disp: -8,
-};
+use vw_insn::{Base, Mem, Reg, word_of};
 
 /// The word at which rbp points.
 pub const AT_RBP: Mem = Mem {
@@ -73,14 +58,14 @@ pub fn relative(next: u64, rel: i32) -> u64
 }
 
 /// rsp after a pop of eight bytes.
-pub fn raised(rsp: u64) -> u64
+pub fn raise(rsp: u64) -> u64
     ensures { result ≡ raised rsp }
 {
     rsp.wrapping_add(8)
 }
 
 /// rsp after a push of eight bytes.
-pub fn lowered(rsp: u64) -> u64
+pub fn lower(rsp: u64) -> u64
     ensures { result ≡ lowered rsp }
 {
     rsp.wrapping_sub(8)

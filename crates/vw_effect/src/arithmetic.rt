@@ -7,7 +7,6 @@ ghost use Rattle.vw_insn.specs.Arithmetic.{modulus, top_bit, has_top_bit, differ
 ghost use Rattle.vw_effect.specs.Meaning.{status_of};
 
 use crate::Flags;
-use crate::words::low;
 use vw_insn::{AluOp, Count, ShiftOp, UnaryOp, Width};
 
 fn top_bit(w: Width) -> u64
@@ -52,7 +51,7 @@ fn bits_above(w: Width) -> u64
     }
 }
 
-fn sign_extended(from: Width, to: Width, x: u64) -> u64
+fn sign_extend(from: Width, to: Width, x: u64) -> u64
     requires fits { x < modulus from }
     requires narrow { IsNarrow from }
     requires wide { IsWide to }
@@ -60,25 +59,21 @@ fn sign_extended(from: Width, to: Width, x: u64) -> u64
     ensures fits { result < modulus to }
 {
     if has_top_bit(from, x) {
-        low(to, x + bits_above(from))
+        to.low(x + bits_above(from))
     } else {
         x
     }
 }
 
 /// A number of width `from` extended to width `to`, by its sign where it is signed, else by zeros.
-pub fn extended(signed: bool, from: Width, to: Width, x: u64) -> u64
+pub fn extend_number(signed: bool, from: Width, to: Width, x: u64) -> u64
     requires fits { x < modulus from }
     requires narrow { IsNarrow from }
     requires wide { IsWide to }
     ensures value { result ≡ extended signed from to x }
     ensures fits { result < modulus to }
 {
-    if signed {
-        sign_extended(from, to, x)
-    } else {
-        x
-    }
+    if signed { sign_extend(from, to, x) } else { x }
 }
 
 fn wrapped_sum(x: u64, y: u64) -> u64
@@ -134,7 +129,7 @@ fn carries(w: Width, x: u64, y: u64) -> bool
 pub fn flags_of_sum(w: Width, x: u64, y: u64) -> Flags
     ensures { status_of result ≡ flags_of_sum w x y }
 {
-    let number = low(w, wrapped_sum(x, y));
+    let number = w.low(wrapped_sum(x, y));
     let signs_differ = differ(has_top_bit(w, x), has_top_bit(w, y));
     let sign_changes = differ(has_top_bit(w, x), has_top_bit(w, number));
     flags_of(
@@ -149,7 +144,7 @@ pub fn flags_of_sum(w: Width, x: u64, y: u64) -> Flags
 pub fn flags_of_difference(w: Width, x: u64, y: u64) -> Flags
     ensures { status_of result ≡ flags_of_difference w x y }
 {
-    let number = low(w, wrapped_difference(x, y));
+    let number = w.low(wrapped_difference(x, y));
     let signs_differ = differ(has_top_bit(w, x), has_top_bit(w, y));
     let sign_changes = differ(has_top_bit(w, x), has_top_bit(w, number));
     flags_of(w, x < y, both(signs_differ, sign_changes), number)
@@ -162,7 +157,8 @@ pub fn flags_of_bits(w: Width, number: u64) -> Flags
     flags_of(w, false, false, number)
 }
 
-/// The result of an operation, of which an instruction takes the low bits; that of ADC and SBB is the chosen one.
+/// The result of an operation, of which an instruction takes the low bits; that of ADC and SBB is
+/// the chosen one.
 pub fn alu_result(op: AluOp, chosen: u64, x: u64, y: u64) -> u64
     ensures { result ≡ alu_result op chosen x y }
 {
@@ -200,8 +196,8 @@ fn masked_count(w: Width, n: u8) -> u8
     }
 }
 
-/// The result of a shift or rotate, of which an instruction takes the low bits: that of SHL by a constant, else the
-/// chosen one.
+/// The result of a shift or rotate, of which an instruction takes the low bits: that of SHL by a
+/// constant, else the chosen one.
 pub fn shift_result(op: ShiftOp, w: Width, by: Count, chosen: u64, x: u64) -> u64
     ensures { result ≡ shift_result op w by chosen x }
 {

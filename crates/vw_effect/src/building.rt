@@ -5,14 +5,14 @@ ghost use Rattle.vw_insn.specs.Arithmetic.{modulus};
 ghost use Rattle.vw_insn.specs.Effect.{going, writing, pushing, writes_place};
 ghost use Rattle.vw_effect.specs.Meaning.{registers_of, status_of, writes_of, transfer_of, after_of};
 
-use crate::addresses::{BELOW_RSP, address, lowered};
+use crate::addresses::{address, lower};
+use crate::before::Before;
 use crate::registers::{put, put_place, word_in};
-use crate::words::bytes_in;
 use crate::{After, Flags, Transfer, Write};
-use vw_insn::{Place, Reg, Width};
+use vw_insn::{Mem, Place, Reg, Width};
 
 /// These registers and flags, with nothing written to memory.
-pub fn going(registers: &[u64; 16], flags: Flags, transfer: Transfer) -> After
+pub fn leave_with(registers: &[u64; 16], flags: Flags, transfer: Transfer) -> After
     ensures { after_of result
         ≡ going (registers_of registers.now) (status_of flags) (transfer_of transfer) }
 {
@@ -30,54 +30,46 @@ fn writes_place(next: u64, registers: &[u64; 16], w: Width, dst: Place, x: u64) 
     match dst {
         Place::Mem(mem) => Some(Write {
             at: address(next, registers, mem),
-            size: bytes_in(w),
+            size: u32::from(w.bytes()),
             value: u128::from(x),
         }),
         Place::Reg(_) | Place::High(_) => None,
     }
 }
 
-/// `x`, a number of this width, is written to a place.
-pub fn writing(
-    next: u64,
-    registers: &[u64; 16],
-    flags: Flags,
-    w: Width,
-    dst: Place,
-    x: u64,
-) -> After
+/// Writes `x`, a number of this width, to a place.
+pub fn write_to(before: &Before<'_>, flags: Flags, w: Width, dst: Place, x: u64) -> After
     requires { x < modulus w }
     ensures { after_of result
-        ≡ writing next (registers_of registers.now) (status_of flags) w dst x }
+        ≡ writing before.now.next (registers_of before.now.registers.now) (status_of flags) w dst x }
 {
-    let mut left = *registers;
+    let mut left = *before.registers;
     put_place(&mut left, w, dst, x);
     After {
         registers: left,
         flags,
-        write: writes_place(next, registers, w, dst, x),
+        write: writes_place(before.next, before.registers, w, dst, x),
         transfer: Transfer::Next,
     }
 }
 
-/// A word is pushed: it is written below the top of the stack, and then rsp falls by 8.
-pub fn pushing(
-    next: u64,
-    registers: &[u64; 16],
-    flags: Flags,
-    word: u64,
-    transfer: Transfer,
-) -> After
+/// Pushes a word: it is written below the top of the stack, and then rsp falls by 8.
+pub fn push_word(before: &Before<'_>, word: u64, transfer: Transfer) -> After
     ensures { after_of result
-        ≡ pushing next (registers_of registers.now) (status_of flags) word (transfer_of transfer) }
+        ≡ pushing before.now.next (registers_of before.now.registers.now)
+        (status_of before.now.flags) word (transfer_of transfer) }
 {
-    let mut left = *registers;
-    put(&mut left, Reg::Rsp, lowered(word_in(registers, Reg::Rsp)));
+    let mut left = *before.registers;
+    put(
+        &mut left,
+        Reg::Rsp,
+        lower(word_in(before.registers, Reg::Rsp)),
+    );
     After {
         registers: left,
-        flags,
+        flags: before.flags,
         write: Some(Write {
-            at: address(next, registers, BELOW_RSP),
+            at: address(before.next, before.registers, Mem::below_rsp()),
             size: 8,
             value: u128::from(word),
         }),

@@ -2,9 +2,9 @@
 
 ghost use Rattle.vw_effect.specs.Meaning.{IsAfter};
 
-use crate::addresses::{raised, relative};
+use crate::addresses::{raise, relative};
 use crate::before::Before;
-use crate::building::{going, pushing};
+use crate::building::{leave_with, push_word};
 use crate::conditions::holds;
 use crate::registers::{leave_frame, place_word, pop_into, put, source_word, word_in};
 use crate::{After, Transfer};
@@ -15,13 +15,7 @@ pub fn push(before: &Before<'_>, src: Source) -> After
     ensures { IsAfter (Insn.Push src) before.now result }
 {
     let word = source_word(before.registers, before.loaded, src);
-    pushing(
-        before.next,
-        before.registers,
-        before.flags,
-        word,
-        Transfer::Next,
-    )
+    push_word(before, word, Transfer::Next)
 }
 
 /// POP: rsp rises before the register is written, so that of rsp the word that was read stays.
@@ -30,7 +24,7 @@ pub fn pop(before: &Before<'_>, dst: Reg) -> After
 {
     let mut left = *before.registers;
     pop_into(&mut left, dst, before.loaded);
-    going(&left, before.flags, Transfer::Next)
+    leave_with(&left, before.flags, Transfer::Next)
 }
 
 /// LEAVE: rsp becomes rbp, and then rbp is popped.
@@ -39,7 +33,7 @@ pub fn leave(before: &Before<'_>) -> After
 {
     let mut left = *before.registers;
     leave_frame(&mut left, before.loaded);
-    going(&left, before.flags, Transfer::Next)
+    leave_with(&left, before.flags, Transfer::Next)
 }
 
 /// RET.
@@ -50,9 +44,9 @@ pub fn ret(before: &Before<'_>) -> After
     put(
         &mut left,
         Reg::Rsp,
-        raised(word_in(before.registers, Reg::Rsp)),
+        raise(word_in(before.registers, Reg::Rsp)),
     );
-    going(&left, before.flags, Transfer::Back(before.loaded))
+    leave_with(&left, before.flags, Transfer::Back(before.loaded))
 }
 
 /// Jcc.
@@ -61,9 +55,9 @@ pub fn jcc(before: &Before<'_>, cond: Cond, rel: i32) -> After
 {
     if holds(cond, before.flags) {
         let to = relative(before.next, rel);
-        going(before.registers, before.flags, Transfer::To(to))
+        leave_with(before.registers, before.flags, Transfer::To(to))
     } else {
-        going(before.registers, before.flags, Transfer::Next)
+        leave_with(before.registers, before.flags, Transfer::Next)
     }
 }
 
@@ -72,7 +66,7 @@ pub fn jump(before: &Before<'_>, rel: i32) -> After
     ensures { IsAfter (Insn.Jump rel) before.now result }
 {
     let to = relative(before.next, rel);
-    going(before.registers, before.flags, Transfer::To(to))
+    leave_with(before.registers, before.flags, Transfer::To(to))
 }
 
 /// JMP to the address that a place holds.
@@ -80,7 +74,7 @@ pub fn jump_indirect(before: &Before<'_>, src: Place) -> After
     ensures { IsAfter (Insn.JumpInd src) before.now result }
 {
     let to = place_word(before.registers, before.loaded, src);
-    going(before.registers, before.flags, Transfer::To(to))
+    leave_with(before.registers, before.flags, Transfer::To(to))
 }
 
 /// CALL of a relative address.
@@ -88,13 +82,7 @@ pub fn call(before: &Before<'_>, rel: i32) -> After
     ensures { IsAfter (Insn.Call rel) before.now result }
 {
     let to = relative(before.next, rel);
-    pushing(
-        before.next,
-        before.registers,
-        before.flags,
-        before.next,
-        Transfer::Enter(to),
-    )
+    push_word(before, before.next, Transfer::Enter(to))
 }
 
 /// CALL of the address that a place holds: the target is the one before the push.
@@ -102,13 +90,7 @@ pub fn call_indirect(before: &Before<'_>, src: Place) -> After
     ensures { IsAfter (Insn.CallInd src) before.now result }
 {
     let to = place_word(before.registers, before.loaded, src);
-    pushing(
-        before.next,
-        before.registers,
-        before.flags,
-        before.next,
-        Transfer::Enter(to),
-    )
+    push_word(before, before.next, Transfer::Enter(to))
 }
 
 /// NOP and ENDBR64.
@@ -116,12 +98,12 @@ pub fn nop(before: &Before<'_>) -> After
     ensures nop { IsAfter Insn.Nop before.now result }
     ensures endbr { IsAfter Insn.Endbr before.now result }
 {
-    going(before.registers, before.flags, Transfer::Next)
+    leave_with(before.registers, before.flags, Transfer::Next)
 }
 
 /// UD2.
 pub fn stop(before: &Before<'_>) -> After
     ensures { IsAfter Insn.Ud2 before.now result }
 {
-    going(before.registers, before.flags, Transfer::Stop)
+    leave_with(before.registers, before.flags, Transfer::Stop)
 }

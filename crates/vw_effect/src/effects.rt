@@ -63,10 +63,11 @@ fn after(insn: Insn, before: &Before<'_>) -> After
     }
 }
 
-/// What an instruction, which an opcode row can give, does from these registers and flags, once it has loaded a number
-/// (SDM volume 2, "Operation" of each instruction). `next` is the address of the next instruction. `loaded` is the
-/// number that its read gave; where it reads nothing, and for instructions on XMM registers, any number will do.
-/// `choice` stands for the results and flags that the definition leaves open. A read is made before anything is written.
+/// What an instruction, which an opcode row can give, does from these registers and flags, once it
+/// has loaded a number (SDM volume 2, "Operation" of each instruction). `next` is the address of
+/// the next instruction. `loaded` is the number that its read gave; where it reads nothing, and for
+/// instructions on XMM registers, any number will do. `choice` stands for the results and flags
+/// that the definition leaves open. A read is made before anything is written.
 pub fn effect(
     insn: &Insn,
     next: u64,

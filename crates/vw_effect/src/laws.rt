@@ -12,8 +12,8 @@ ghost use Rattle.vw_insn.specs.Effect.{reads};
 ghost use Rattle.vw_effect.specs.Meaning.{AreShort};
 ghost use Rattle.vw_effect.specs.Comparisons.{signed, has_room, contrary};
 
-/// After a comparison, CMP or SUB, of two numbers of a width the conditions compare them, unsigned and signed, and OF
-/// says that their signed difference has no room in the width.
+/// After a comparison, CMP or SUB, of two numbers of a width the conditions compare them, unsigned
+/// and signed, and OF says that their signed difference has no room in the width.
 pub fn comparisons_compare()
     ensures below { (w : Width) (x y : ℕ) → holds cond.B (flags_of_difference w x y) ≡ nat_lt x y }
     ensures below_or_equal { (w : Width) (x y : ℕ) → x < modulus w → y < modulus w
@@ -31,7 +31,8 @@ pub fn comparisons_compare()
         ≡ int_lt (signed w (low w (wrapped_difference x y))) (pos 0) }
 {}
 
-/// After ADD of two numbers of a width CF says that their sum has no room in it, and OF that their signed sum has none.
+/// After ADD of two numbers of a width CF says that their sum has no room in it, and OF that their
+/// signed sum has none.
 pub fn sums_carry()
     ensures carry { (w : Width) (x y : ℕ)
         → holds cond.B (flags_of_sum w x y) ≡ nat_le (modulus w) (x + y) }
@@ -44,8 +45,8 @@ pub fn contraries_exclude()
     ensures { (c : Cond) (f : Flags) → holds (contrary c) f ≡ not (holds c f) }
 {}
 
-/// Instructions read words: at most eight bytes at a time, but for those on XMM registers, which read up to sixteen and
-/// take nothing from them to general registers.
+/// Instructions read words: at most eight bytes at a time, but for those on XMM registers, which
+/// read up to sixteen and take nothing from them to general registers.
 pub fn reads_are_short()
     ensures { (i : Insn) (next : ℕ) (registers : ℕ → ℕ) → AreShort i (reads i next registers) }
 {}

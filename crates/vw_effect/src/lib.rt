@@ -1,6 +1,6 @@
-//! What one instruction of x86-64 reads and does: its reads by the registers before it, and its registers, flags, write
-//! and transfer once a number was loaded. Each function here equals its definition in `vw_insn` (SDM volume 2,
-//! "Operation" of each instruction).
+//! What one instruction of x86-64 reads and does: its reads by the registers before it, and its
+//! registers, flags, write and transfer once a number was loaded. Each function here equals its
+//! definition in `vw_insn` (SDM volume 2, "Operation" of each instruction).
 #![tactic(auto)]
 
 mod accesses;
@@ -20,7 +20,6 @@ mod registers;
 mod status;
 mod ways;
 mod words;
-mod xmm_accesses;
 mod xmm_effects;
 
 pub use accesses::{Access, Reads, Write};

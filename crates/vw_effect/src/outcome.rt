@@ -2,8 +2,9 @@
 
 use crate::{Flags, Write};
 
-/// What stands for results and flags that are open: a number for the open result, a second one for rdx where two
-/// registers are written, and flags. A store of an XMM register takes its bytes from both numbers, the first below.
+/// What stands for results and flags that are open: a number for the open result, a second one for
+/// rdx where two registers are written, and flags. A store of an XMM register takes its bytes from
+/// both numbers, the first below.
 #[derive(Clone, Copy, Debug, PartialEq, Eq)]
 pub struct Open {
     pub numbers: [u64; 2],
@@ -25,8 +26,8 @@ pub enum Transfer {
     Stop,
 }
 
-/// What an instruction leaves: the sixteen general registers by number, the flags, what it writes to memory, and where
-/// control goes.
+/// What an instruction leaves: the sixteen general registers by number, the flags, what it writes
+/// to memory, and where control goes.
 #[derive(Clone, Copy, Debug, PartialEq, Eq)]
 pub struct After {
     pub registers: [u64; 16],

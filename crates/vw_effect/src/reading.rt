@@ -4,11 +4,9 @@ ghost use Rattle.std.specs.Prelude.{◌≡◌, ◌++◌};
 ghost use Rattle.vw_insn.specs.Effect.{reads, reads_place, reads_source, reads_top, reads_xmm, unwound};
 ghost use Rattle.vw_effect.specs.Meaning.{registers_of, accesses_of, reads_of};
 
-use crate::addresses::{AT_RBP, AT_RSP, address};
-use crate::words::bytes_in;
-use crate::xmm_accesses::{is_xmm_store, xmm_size};
+use crate::addresses::{AT_RBP, address};
 use crate::{Access, Reads};
-use vw_insn::{Insn, Place, Source, Width, XmmOperand, XmmRow};
+use vw_insn::{Insn, Mem, Place, Source, Width, XmmOperand, XmmRow};
 
 fn reads_place(next: u64, registers: &[u64; 16], w: Width, place: Place) -> Option<Access>
     ensures { accesses_of result ≡ reads_place next (registers_of registers.now) w place }
@@ -16,7 +14,7 @@ fn reads_place(next: u64, registers: &[u64; 16], w: Width, place: Place) -> Opti
     match place {
         Place::Mem(mem) => Some(Access {
             at: address(next, registers, mem),
-            size: bytes_in(w),
+            size: u32::from(w.bytes()),
         }),
         Place::Reg(_) | Place::High(_) => None,
     }
@@ -35,7 +33,7 @@ fn top_of_stack(next: u64, registers: &[u64; 16]) -> Access
     ensures { accesses_of (Some result) ≡ reads_top next (registers_of registers.now) }
 {
     Access {
-        at: address(next, registers, AT_RSP),
+        at: address(next, registers, Mem::at_rsp()),
         size: 8,
     }
 }
@@ -60,12 +58,12 @@ fn reads_xmm(
 {
     match rm {
         XmmOperand::Mem(mem) => {
-            if is_xmm_store(row) {
+            if row.is_store() {
                 None
             } else {
                 Some(Access {
                     at: address(next, registers, mem),
-                    size: xmm_size(row, wide),
+                    size: u32::from(row.size(wide)),
                 })
             }
         }
@@ -92,9 +90,10 @@ fn both(first: Option<Access>, second: Option<Access>) -> Reads
     }
 }
 
-/// What an instruction before `next` reads from these registers: its memory operand, also where it is written
-/// afterwards, or the top of the stack (SDM volume 2, "Operation" of each instruction). CMOV reads its operand whether
-/// the condition holds or not. LEA, NOP, MOV to memory and SET read none.
+/// What an instruction before `next` reads from these registers: its memory operand, also where it
+/// is written afterwards, or the top of the stack (SDM volume 2, "Operation" of each instruction).
+/// CMOV reads its operand whether the condition holds or not. LEA, NOP, MOV to memory and SET read
+/// none.
 pub fn reads(insn: &Insn, next: u64, registers: &[u64; 16]) -> Reads
     ensures { reads_of result ≡ reads insn.now next (registers_of registers.now) }
 {

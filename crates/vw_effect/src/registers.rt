@@ -6,22 +6,22 @@ ghost use Rattle.vw_insn.specs.Arithmetic.{modulus};
 ghost use Rattle.vw_insn.specs.Effect.{unwound, raised, put_place, place_word, source_word, put_results, put_bits};
 ghost use Rattle.vw_effect.specs.Meaning.{registers_of};
 
-use crate::addresses::raised;
-use crate::words::{low, merged, number, register_of, with_high, word_of};
-use vw_insn::{BitsOp, Place, Reg, Source, Width};
+use crate::addresses::raise;
+use crate::words::{with_high, with_low};
+use vw_insn::{BitsOp, Place, Reg, Source, Width, word_of};
 
 /// The word that a register holds.
 pub fn word_in(registers: &[u64; 16], reg: Reg) -> u64
     ensures { result ≡ registers_of registers.now (number reg) }
 {
-    registers[number(reg)]
+    registers[usize::from(reg.number())]
 }
 
 /// Puts a word into a register.
 pub fn put(registers: &mut [u64; 16], reg: Reg, word: u64)
     ensures { registers_of registers.new ≡ put (registers_of registers.old) (number reg) word }
 {
-    registers[number(reg)] = word;
+    registers[usize::from(reg.number())] = word;
 }
 
 /// Pops a word into a register: rsp rises by 8, and then the register is written.
@@ -30,7 +30,7 @@ pub fn pop_into(registers: &mut [u64; 16], reg: Reg, word: u64)
         ≡ put (put (registers_of registers.old) 4 (raised (registers_of registers.old 4)))
         (number reg) word }
 {
-    let rsp = raised(word_in(registers, Reg::Rsp));
+    let rsp = raise(word_in(registers, Reg::Rsp));
     put(registers, Reg::Rsp, rsp);
     put(registers, reg, word);
 }
@@ -53,10 +53,10 @@ pub fn put_place(registers: &mut [u64; 16], w: Width, dst: Place, x: u64)
     match dst {
         Place::Reg(reg) => {
             let old = word_in(registers, reg);
-            put(registers, reg, merged(w, old, x));
+            put(registers, reg, with_low(w, old, x));
         }
         Place::High(high) => {
-            let reg = register_of(high);
+            let reg = high.register();
             let old = word_in(registers, reg);
             put(registers, reg, with_high(old, x % 0x100));
         }
@@ -75,7 +75,8 @@ pub fn put_places(registers: &mut [u64; 16], w: Width, a: Reg, x: u64, b: Reg, y
     put_place(registers, w, Place::Reg(b), y);
 }
 
-/// Writes the results of MUL, IMUL, DIV and IDIV with one operand: to ax at 8 bits, else to rax and rdx.
+/// Writes the results of MUL, IMUL, DIV and IDIV with one operand: to ax at 8 bits, else to rax and
+/// rdx.
 pub fn put_results(registers: &mut [u64; 16], w: Width, first: u64, second: u64)
     ensures { (numbers : ℕ → ℕ) → numbers 0 ≡ first → numbers 1 ≡ second
         → registers_of registers.new ≡ put_results (registers_of registers.old) w numbers }
@@ -85,16 +86,16 @@ pub fn put_results(registers: &mut [u64; 16], w: Width, first: u64, second: u64)
             registers,
             Width::W16,
             Place::Reg(Reg::Rax),
-            low(Width::W16, first),
+            Width::W16.low(first),
         ),
         Width::W16 | Width::W32 | Width::W64 => {
             put_places(
                 registers,
                 w,
                 Reg::Rax,
-                low(w, first),
+                w.low(first),
                 Reg::Rdx,
-                low(w, second),
+                w.low(second),
             );
         }
     }
@@ -105,18 +106,19 @@ pub fn put_bits(registers: &mut [u64; 16], op: BitsOp, w: Width, dst: Reg, chose
     ensures { registers_of registers.new ≡ put_bits op (registers_of registers.old) w dst chosen }
 {
     match op {
-        BitsOp::Popcnt => put_place(registers, w, Place::Reg(dst), low(w, chosen)),
+        BitsOp::Popcnt => put_place(registers, w, Place::Reg(dst), w.low(chosen)),
         BitsOp::Bsf | BitsOp::Bsr | BitsOp::Tzcnt | BitsOp::Lzcnt => put(registers, dst, chosen),
     }
 }
 
-/// The word that a place holds, of which an instruction takes the low bits; `loaded` is that of memory.
+/// The word that a place holds, of which an instruction takes the low bits; `loaded` is that of
+/// memory.
 pub fn place_word(registers: &[u64; 16], loaded: u64, place: Place) -> u64
     ensures { result ≡ place_word (registers_of registers.now) loaded place }
 {
     match place {
         Place::Reg(reg) => word_in(registers, reg),
-        Place::High(high) => word_in(registers, register_of(high)) / 0x100 % 0x100,
+        Place::High(high) => word_in(registers, high.register()) / 0x100 % 0x100,
         Place::Mem(_) => loaded,
     }
 }

@@ -31,8 +31,9 @@ pub fn way_of(insn: &Insn) -> Way
     }
 }
 
-/// Whether an instruction may trap for a reason that is left open: a quotient that has no room (SDM volume 2, "DIV"), an
-/// operand of 16 bytes that is not aligned, or a floating-point exception (SDM volume 1, 11.5).
+/// Whether an instruction may trap for a reason that is left open: a quotient that has no room (SDM
+/// volume 2, "DIV"), an operand of 16 bytes that is not aligned, or a floating-point exception (SDM
+/// volume 1, 11.5).
 pub fn may_trap(insn: &Insn) -> bool
     ensures { result ≡ may_trap insn.now }
 {

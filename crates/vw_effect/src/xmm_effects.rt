@@ -9,9 +9,8 @@ ghost use Rattle.vw_effect.specs.Meaning.{registers_of, status_of, writes_of, Is
 
 use crate::addresses::address;
 use crate::before::Before;
-use crate::xmm_accesses::{is_xmm_store, xmm_size};
 use crate::{After, Flags, Transfer, Write};
-use vw_insn::{Insn, XmmOperand, XmmRow};
+use vw_insn::{Insn, XmmOperand, XmmRole, XmmRow};
 
 // A general register in which `x` was written: 64 bits, or 32 that clear the upper half.
 fn by_wide(wide: bool, x: u64) -> u64
@@ -27,17 +26,22 @@ fn put_number(registers: &mut [u64; 16], n: u8, word: u64)
     registers[usize::from(n)] = word;
 }
 
-fn put_xmm(registers: &mut [u64; 16], row: XmmRow, wide: bool, reg: u8, rm: XmmOperand, chosen: u64)
+fn put_xmm(
+    registers: &mut [u64; 16],
+    role: XmmRole,
+    wide: bool,
+    reg: u8,
+    rm: XmmOperand,
+    chosen: u64,
+)
     requires number { reg < 16 }
     requires operand { IsXmmOperand rm }
     ensures { registers_of registers.new
-        ≡ xmm_registers row wide reg rm (registers_of registers.old) chosen }
+        ≡ xmm_registers role wide reg rm (registers_of registers.old) chosen }
 {
-    match row {
-        XmmRow::Cvttss2si | XmmRow::Cvttsd2si | XmmRow::Cvtss2si | XmmRow::Cvtsd2si => {
-            put_number(registers, reg, by_wide(wide, chosen));
-        }
-        XmmRow::MovdStore => match rm {
+    match role {
+        XmmRole::ToGeneral => put_number(registers, reg, by_wide(wide, chosen)),
+        XmmRole::MoveToGeneral => match rm {
             XmmOperand::Reg(n) => put_number(registers, n, by_wide(wide, chosen)),
             XmmOperand::Mem(_) => {}
         },
@@ -45,11 +49,11 @@ fn put_xmm(registers: &mut [u64; 16], row: XmmRow, wide: bool, reg: u8, rm: XmmO
     }
 }
 
-fn xmm_flags(row: XmmRow, flags: Flags, chosen: Flags) -> Flags
-    ensures { status_of result ≡ xmm_flags row (status_of flags) (status_of chosen) }
+fn xmm_flags(role: XmmRole, flags: Flags, chosen: Flags) -> Flags
+    ensures { status_of result ≡ xmm_flags role (status_of flags) (status_of chosen) }
 {
-    match row {
-        XmmRow::Ucomiss | XmmRow::Ucomisd | XmmRow::Comiss | XmmRow::Comisd => chosen,
+    match role {
+        XmmRole::Compare => chosen,
         _ => flags,
     }
 }
@@ -76,8 +80,8 @@ fn writes_xmm(before: &Before<'_>, row: XmmRow, wide: bool, rm: XmmOperand) -> O
 {
     match rm {
         XmmOperand::Mem(mem) => {
-            if is_xmm_store(row) {
-                let size = xmm_size(row, wide);
+            if row.is_store() {
+                let size = u32::from(row.size(wide));
                 Some(Write {
                     at: address(before.next, before.registers, mem),
                     size,
@@ -98,10 +102,11 @@ pub fn xmm(before: &Before<'_>, row: XmmRow, wide: bool, reg: u8, rm: XmmOperand
     ensures { IsAfter (Insn.Xmm row wide reg rm imm) before.now result }
 {
     let mut left = *before.registers;
-    put_xmm(&mut left, row, wide, reg, rm, before.open.numbers[0]);
+    let role = row.role();
+    put_xmm(&mut left, role, wide, reg, rm, before.open.numbers[0]);
     After {
         registers: left,
-        flags: xmm_flags(row, before.flags, before.open.flags),
+        flags: xmm_flags(role, before.flags, before.open.flags),
         write: writes_xmm(before, row, wide, rm),
         transfer: Transfer::Next,
     }

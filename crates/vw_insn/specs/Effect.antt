@@ -32,8 +32,9 @@ use Rattle.vw_insn.specs.declared.instruction.Insn.{Insn}
 use Rattle.vw_insn.specs.declared.instruction.Insn.TheVariants as insn
 use Rattle.vw_insn.specs.Arithmetic.{extended, flags_of_bits, alu_result, alu_flags, shift_result, unary_flags}
 use Rattle.vw_insn.specs.Conditions.{holds}
-use Rattle.vw_insn.specs.XmmEffect.{xmm_size, is_xmm_store, stored_bytes, xmm_registers, xmm_flags}
-use Rattle.vw_insn.specs.Words.{Registers, Flags, number, register_of, bytes_in, low, merged, with_high, word_of, put}
+use Rattle.vw_insn.specs.XmmTable.{xmm_role, xmm_size, is_xmm_store}
+use Rattle.vw_insn.specs.XmmEffect.{stored_bytes, xmm_registers, xmm_flags}
+use Rattle.vw_insn.specs.Words.{Registers, Flags, number, register_of, bytes_in, low, with_low, with_high, word_of, put}
 
 -- What an instruction leaves open: numbers, by their place, and flags. Number 0 is the open result, and number 1 that
 -- of rdx where two registers are written. A store of an XMM register takes its bytes from both.
@@ -194,7 +195,7 @@ source_word registers loaded (source.Imm i) = word_of i
 
 -- the registers after x, a number of this width, was written to a place
 abbrev pub put_place : Registers → Width → Place → ℕ → Registers
-put_place registers w (place.Reg r) x = put registers (number r) (merged w (registers (number r)) x)
+put_place registers w (place.Reg r) x = put registers (number r) (with_low w (registers (number r)) x)
 put_place registers w (place.High h) x = put registers (number (register_of h)) (with_high (registers (number (register_of h))) (x % 2 ^ 8))
 put_place registers w (place.Mem mem) x = registers
 
@@ -333,8 +334,8 @@ effect insn.Endbr next registers flags loaded choice = going registers flags Nex
 -- instructions on XMM registers
 effect (insn.Xmm row wide reg rm imm) next registers flags loaded choice =
     record {
-      registers = xmm_registers row wide reg rm registers (choice.numbers 0);
-      flags = xmm_flags row flags choice.flags;
+      registers = xmm_registers (xmm_role row) wide reg rm registers (choice.numbers 0);
+      flags = xmm_flags (xmm_role row) flags choice.flags;
       writes = writes_xmm next registers row wide rm choice.numbers;
       transfer = Next;
     }

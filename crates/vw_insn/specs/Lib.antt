@@ -1,9 +1,9 @@
 pub mod Words
 pub mod Arithmetic
 pub mod Conditions
+pub mod XmmTable
 pub mod XmmEffect
 pub mod Effect
 pub mod Listed
 pub mod Names
-pub mod XmmNames
 pub mod Text

@@ -1,13 +1,11 @@
 -- How an instruction is printed: the SDM's mnemonic in lower case, then the operands, the destination
 -- first.
-use Rattle.std.specs.Prelude.{ℕ, ◌+◌, ◌%◌, ◌^◌, ℤ, pos, negsuc, ◌+ℤ◌, Bool, true, false, ◌||◌, is_some, Option, None, Some, List, [], ◌∷◌, ◌++◌, slice_index_or, codes}
-use Rattle.std.specs.Int.{cast_unsigned, w64}
+use Rattle.std.specs.Prelude.{ℕ, ◌+◌, ℤ, pos, negsuc, ◌+ℤ◌, Bool, true, false, ◌||◌, is_some, Option, None, Some, List, [], ◌++◌, codes}
 use Rattle.std.specs.Fmt.{decimal}
 use Rattle.vw_bits.specs.Numerals.{hex_text}
 use Rattle.vw_insn.specs.declared.registers.Reg.{Reg}
-use Rattle.vw_insn.specs.declared.registers.Reg.TheVariants.{Rax, Rcx, Rdx, Rbx, Rsp, Rbp, Rsi, Rdi, R8, R9, R10, R11, R12, R13, R14, R15}
 use Rattle.vw_insn.specs.declared.registers.Width.{Width}
-use Rattle.vw_insn.specs.declared.registers.Width.TheVariants.{W8, W16, W32, W64}
+use Rattle.vw_insn.specs.declared.registers.Width.TheVariants.{W8, W32, W64}
 use Rattle.vw_insn.specs.declared.operands.Base.{Base}
 use Rattle.vw_insn.specs.declared.operands.Base.TheVariants as base
 use Rattle.vw_insn.specs.declared.operands.Mem.{Mem}
@@ -19,17 +17,16 @@ use Rattle.vw_insn.specs.declared.operands.Count.{Count}
 use Rattle.vw_insn.specs.declared.operands.Count.TheVariants as count
 use Rattle.vw_insn.specs.declared.operands.XmmOperand.{XmmOperand}
 use Rattle.vw_insn.specs.declared.operands.XmmOperand.TheVariants as xmm
-use Rattle.vw_insn.specs.declared.xmm.XmmRow.{XmmRow}
-use Rattle.vw_insn.specs.declared.xmm.XmmRow.TheVariants as row
 use Rattle.vw_insn.specs.declared.instruction.Insn.{Insn}
 use Rattle.vw_insn.specs.declared.instruction.Insn.TheVariants.{Alu, Push, Pop, Extend, Imul, Jcc, Jump, Call, Ret, Leave, CallInd, JumpInd, Test, Xchg, Mov, MovImm64, Lea, Nop, Widen, SignA, Shift, Unary, MulDiv, Ud2, Cmov, Set, Bits, Bt, Bswap, Endbr, Xmm}
 use Rattle.vw_insn.specs.declared.printed.Operand.{Operand}
 use Rattle.vw_insn.specs.declared.printed.Operand.TheVariants as operand
 use Rattle.vw_insn.specs.declared.printed.Operands.{Operands}
-use Rattle.vw_insn.specs.declared.printed.XmmRole.{XmmRole}
-use Rattle.vw_insn.specs.declared.printed.XmmRole.TheVariants as role
+use Rattle.vw_insn.specs.declared.xmm.XmmRole.{XmmRole}
+use Rattle.vw_insn.specs.declared.xmm.XmmRole.TheVariants as role
+use Rattle.vw_insn.specs.Words.{register, low, word_of}
 use Rattle.vw_insn.specs.Names.{reg_text, reg64_text, high_text, cond_text, alu_text, shift_text, unary_text, muldiv_text, bits_text}
-use Rattle.vw_insn.specs.XmmNames.{xmm_text}
+use Rattle.vw_insn.specs.XmmTable.{xmm_text, xmm_role}
 
 -- The mnemonic
 
@@ -96,10 +93,7 @@ condition _ = []
 
 -- the bits of an integer at a width, as an unsigned number
 abbrev pub unsigned_at : Width → ℤ → ℕ
-unsigned_at W8 n = cast_unsigned w64 n % 2 ^ 8
-unsigned_at W16 n = cast_unsigned w64 n % 2 ^ 16
-unsigned_at W32 n = cast_unsigned w64 n % 2 ^ 32
-unsigned_at W64 n = cast_unsigned w64 n
+unsigned_at w n = low w (word_of n)
 
 abbrev pub place_operand : Width → Place → Operand
 place_operand w (place.Reg r) = operand.Reg w r
@@ -114,14 +108,10 @@ abbrev pub count_operand : Count → Operand
 count_operand count.Cl = operand.Cl
 count_operand (count.Imm n) = operand.Imm n
 
--- the general registers by number (SDM volume 2, table 3-1)
-abbrev pub numbered : List Reg
-numbered = Rax ∷ Rcx ∷ Rdx ∷ Rbx ∷ Rsp ∷ Rbp ∷ Rsi ∷ Rdi ∷ R8 ∷ R9 ∷ R10 ∷ R11 ∷ R12 ∷ R13 ∷ R14 ∷ R15 ∷ []
-
 -- a general register by its number, of 64 bits where it is wide, else of 32
 abbrev pub general : Bool → ℕ → Operand
-general false n = operand.Reg W32 (slice_index_or numbered n Rax)
-general true n = operand.Reg W64 (slice_index_or numbered n Rax)
+general false n = operand.Reg W32 (register n)
+general true n = operand.Reg W64 (register n)
 
 abbrev pub general_operand : Bool → XmmOperand → Operand
 general_operand wide (xmm.Reg n) = general wide n
@@ -130,29 +120,6 @@ general_operand wide (xmm.Mem m) = operand.Mem m
 abbrev pub xmm_operand : XmmOperand → Operand
 xmm_operand (xmm.Reg n) = operand.Xmm n
 xmm_operand (xmm.Mem m) = operand.Mem m
-
--- which operand is the destination and which are general registers (SDM volume 2, chapters 3 to 5)
-abbrev pub xmm_role : XmmRow → XmmRole
-xmm_role row.MovupsStore = role.Store
-xmm_role row.MovupdStore = role.Store
-xmm_role row.MovssStore = role.Store
-xmm_role row.MovsdStore = role.Store
-xmm_role row.MovapsStore = role.Store
-xmm_role row.MovapdStore = role.Store
-xmm_role row.MovdqaStore = role.Store
-xmm_role row.MovdquStore = role.Store
-xmm_role row.MovqStore = role.Store
-xmm_role row.MovdStore = role.StoreGeneral
-xmm_role row.MovdLoad = role.FromGeneral
-xmm_role row.Cvtsi2ss = role.FromGeneral
-xmm_role row.Cvtsi2sd = role.FromGeneral
-xmm_role row.Cvttss2si = role.ToGeneral
-xmm_role row.Cvttsd2si = role.ToGeneral
-xmm_role row.Cvtss2si = role.ToGeneral
-xmm_role row.Cvtsd2si = role.ToGeneral
-xmm_role row.Roundss = role.Rounding
-xmm_role row.Roundsd = role.Rounding
-xmm_role _ = role.Load
 
 abbrev pub no_operand : Operands
 no_operand = record { first = None; second = None; third = None }
@@ -170,8 +137,10 @@ abbrev pub xmm_operands : XmmRole → Bool → ℕ → XmmOperand → ℕ → Op
 xmm_operands role.Load wide reg rm imm = two_operands (operand.Xmm reg) (xmm_operand rm)
 xmm_operands role.Store wide reg rm imm = two_operands (xmm_operand rm) (operand.Xmm reg)
 xmm_operands role.FromGeneral wide reg rm imm = two_operands (operand.Xmm reg) (general_operand wide rm)
+xmm_operands role.MoveFromGeneral wide reg rm imm = two_operands (operand.Xmm reg) (general_operand wide rm)
 xmm_operands role.ToGeneral wide reg rm imm = two_operands (general wide reg) (xmm_operand rm)
-xmm_operands role.StoreGeneral wide reg rm imm = two_operands (general_operand wide rm) (operand.Xmm reg)
+xmm_operands role.MoveToGeneral wide reg rm imm = two_operands (general_operand wide rm) (operand.Xmm reg)
+xmm_operands role.Compare wide reg rm imm = two_operands (operand.Xmm reg) (xmm_operand rm)
 xmm_operands role.Rounding wide reg rm imm = three_operands (operand.Xmm reg) (xmm_operand rm) (operand.Imm imm)
 
 abbrev pub imul_operands : Operand → Operand → Width → Option ℤ → Operands

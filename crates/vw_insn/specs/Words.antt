@@ -1,5 +1,6 @@
 -- Words of an instruction: widths, the parts of a register, signed numbers, flags.
-use Rattle.std.specs.Prelude.{ℕ, ◌+◌, ◌-◌, ◌*◌, ◌/◌, ◌%◌, ◌^◌, ◌==◌, Bool, ℤ, pos, negsuc, if◌then◌else◌}
+use Rattle.std.specs.Prelude.{ℕ, ◌+◌, ◌-◌, ◌*◌, ◌/◌, ◌%◌, ◌^◌, ◌==◌, Bool, ℤ, pos, negsuc, if◌then◌else◌, List, [], ◌∷◌}
+use Rattle.std.proofs.Common.{get_or}
 use Rattle.vw_insn.specs.declared.registers.Reg.{Reg}
 use Rattle.vw_insn.specs.declared.registers.Reg.TheVariants.{Rax, Rcx, Rdx, Rbx, Rsp, Rbp, Rsi, Rdi, R8, R9, R10, R11, R12, R13, R14, R15}
 use Rattle.vw_insn.specs.declared.registers.HighReg.{HighReg}
@@ -26,6 +27,15 @@ number R13 = 13
 number R14 = 14
 number R15 = 15
 
+-- the general registers in the order of their numbers
+abbrev pub numbered : List Reg
+numbered = Rax ∷ Rcx ∷ Rdx ∷ Rbx ∷ Rsp ∷ Rbp ∷ Rsi ∷ Rdi
+    ∷ R8 ∷ R9 ∷ R10 ∷ R11 ∷ R12 ∷ R13 ∷ R14 ∷ R15 ∷ []
+
+-- the register of a number from 0 to 15
+abbrev pub register : ℕ → Reg
+register n = get_or numbered n R15
+
 -- the register of which a high byte is bits 8 to 15 (SDM volume 1, 3.4.1.1)
 abbrev pub register_of : HighReg → Reg
 register_of Ah = Rax
@@ -49,11 +59,11 @@ low W64 x = x
 
 -- a register in which x, a number of this width, was written: 32 bits clear the upper half, and 8
 -- or 16 bits keep the others (SDM volume 1, 3.4.1.1)
-abbrev pub merged : Width → ℕ → ℕ → ℕ
-merged W8 old x = old / 2 ^ 8 * 2 ^ 8 + x
-merged W16 old x = old / 2 ^ 16 * 2 ^ 16 + x
-merged W32 old x = x
-merged W64 old x = x
+abbrev pub with_low : Width → ℕ → ℕ → ℕ
+with_low W8 old x = old / 2 ^ 8 * 2 ^ 8 + x
+with_low W16 old x = old / 2 ^ 16 * 2 ^ 16 + x
+with_low W32 old x = x
+with_low W64 old x = x
 
 -- a register in whose bits 8 to 15 x, a number of 8 bits, was written
 abbrev pub with_high : ℕ → ℕ → ℕ

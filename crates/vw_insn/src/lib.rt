@@ -4,6 +4,7 @@
 
 mod equality;
 mod instruction;
+mod laws;
 mod mnemonics;
 mod names;
 mod operands;
@@ -11,16 +12,18 @@ mod operations;
 mod printed;
 mod printing;
 mod registers;
+mod words;
 mod xmm;
-mod xmm_names;
 
 pub use equality::same_insn;
 pub use instruction::Insn;
+pub use laws::registers_are_numbered;
 pub use operands::{Base, Count, Mem, Place, Source, XmmOperand};
 pub use operations::{AluOp, BitsOp, Cond, MulDivOp, ShiftOp, UnaryOp};
 pub use printing::text;
 pub use registers::{HighReg, Reg, Width};
-pub use xmm::XmmRow;
+pub use words::word_of;
+pub use xmm::{XmmRole, XmmRow};
 
 #[cfg(test)]
 mod tests;

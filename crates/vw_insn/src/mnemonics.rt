@@ -2,7 +2,6 @@ ghost use Rattle.std.specs.Prelude.{◌≡◌};
 ghost use Rattle.vw_insn.specs.Text.{extend_text, widen_text, sign_text, stem, condition};
 
 use crate::names::{alu_name, bits_name, cond_name, muldiv_name, shift_name, unary_name};
-use crate::xmm_names::xmm_name;
 use crate::{Insn, Width};
 
 /// The mnemonic up to its condition.
@@ -37,7 +36,7 @@ pub fn stem_name(insn: &Insn) -> &'static str
         Insn::Bt { .. } => "bt",
         Insn::Bswap { .. } => "bswap",
         Insn::Endbr => "endbr64",
-        Insn::Xmm { row, wide, .. } => xmm_name(row, wide),
+        Insn::Xmm { row, wide, .. } => row.name(wide),
     }
 }
 

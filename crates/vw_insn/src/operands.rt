@@ -1,3 +1,6 @@
+ghost use Rattle.std.specs.Prelude.{◌≡◌};
+ghost use Rattle.vw_insn.specs.Effect.{at_rsp, below_rsp};
+
 use crate::{HighReg, Reg};
 
 /// The base of a memory operand (SDM volume 1, 3.7.5).
@@ -20,6 +23,30 @@ pub struct Mem {
     pub index: Option<(Reg, u8)>,
     /// The displacement in bytes, sign-extended to 64 bits.
     pub disp: i32,
+}
+
+impl Mem {
+    /// The word at the top of the stack.
+    pub fn at_rsp() -> Mem
+        ensures { result ≡ at_rsp }
+    {
+        Mem {
+            base: Base::Reg(Reg::Rsp),
+            index: None,
+            disp: 0,
+        }
+    }
+
+    /// Where a push writes: the eight bytes below the top of the stack.
+    pub fn below_rsp() -> Mem
+        ensures { result ≡ below_rsp }
+    {
+        Mem {
+            base: Base::Reg(Reg::Rsp),
+            index: None,
+            disp: -8,
+        }
+    }
 }
 
 /// A general register or memory: what the r/m field of ModRM names (SDM volume 2, 2.1.3). The

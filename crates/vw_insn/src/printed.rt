@@ -1,8 +1,8 @@
 ghost use Rattle.std.specs.Prelude.{◌≡◌, ◌<◌, pos, ◌+ℤ◌};
 ghost use Rattle.vw_insn.specs.Listed.{IsListed, IsXmmOperand};
-ghost use Rattle.vw_insn.specs.Text.{unsigned_at, place_operand, source_operand, count_operand, general, general_operand, xmm_operand, xmm_role, no_operand, one_operand, two_operands, three_operands, xmm_operands, imul_operands, operands_of};
+ghost use Rattle.vw_insn.specs.Text.{place_operand, source_operand, count_operand, general, general_operand, xmm_operand, no_operand, one_operand, two_operands, three_operands, xmm_operands, imul_operands, operands_of};
 
-use crate::{Count, HighReg, Insn, Mem, Place, Reg, Source, Width, XmmOperand, XmmRow};
+use crate::{Count, HighReg, Insn, Mem, Place, Reg, Source, Width, XmmOperand, XmmRole, word_of};
 
 /// An operand as it is printed.
 #[derive(Clone, Copy)]
@@ -25,24 +25,6 @@ pub struct Operands {
     pub first: Option<Operand>,
     pub second: Option<Operand>,
     pub third: Option<Operand>,
-}
-
-/// Which operand of an instruction on XMM registers is its destination, and which are general
-/// registers.
-#[derive(Clone, Copy)]
-pub enum XmmRole {
-    /// The XMM register in ModRM's reg field is the destination.
-    Load,
-    /// The XMM register or memory that ModRM's r/m field names is the destination.
-    Store,
-    /// As `Load`, from a general register or memory.
-    FromGeneral,
-    /// As `Load`, to a general register.
-    ToGeneral,
-    /// As `Store`, to a general register or memory.
-    StoreGeneral,
-    /// As `Load`, with an immediate that says how to round.
-    Rounding,
 }
 
 impl Operands {
@@ -138,7 +120,7 @@ pub fn printed_operands(insn: &Insn, next: u32) -> Operands
             reg,
             rm,
             imm,
-        } => printed_xmm(role_of(row), wide, reg, rm, imm),
+        } => printed_xmm(row.role(), wide, reg, rm, imm),
         Insn::Ret
         | Insn::Leave
         | Insn::Nop
@@ -170,7 +152,7 @@ fn printed_source(w: Width, source: Source) -> Operand
 {
     match source {
         Source::Place(place) => printed_place(w, place),
-        Source::Imm(imm) => Operand::Imm(bits_at(w, imm)),
+        Source::Imm(imm) => Operand::Imm(w.low(word_of(imm))),
     }
 }
 
@@ -188,19 +170,7 @@ fn printed_imul(first: Operand, second: Operand, w: Width, imm: Option<i32>) -> 
 {
     match imm {
         None => Operands::two(first, second),
-        Some(imm) => Operands::three(first, second, Operand::Imm(bits_at(w, imm))),
-    }
-}
-
-fn bits_at(w: Width, imm: i32) -> u64
-    ensures { result ≡ unsigned_at w imm }
-{
-    let bits = i64::from(imm).cast_unsigned();
-    match w {
-        Width::W8 => bits % (1 << 8),
-        Width::W16 => bits % (1 << 16),
-        Width::W32 => bits % (1 << 32),
-        Width::W64 => bits,
+        Some(imm) => Operands::three(first, second, Operand::Imm(w.low(word_of(imm)))),
     }
 }
 
@@ -210,11 +180,13 @@ fn printed_xmm(role: XmmRole, wide: bool, reg: u8, rm: XmmOperand, imm: u8) -> O
     ensures { result ≡ xmm_operands role wide reg rm imm }
 {
     match role {
-        XmmRole::Load => Operands::two(Operand::Xmm(reg), printed_rm(rm)),
+        XmmRole::Load | XmmRole::Compare => Operands::two(Operand::Xmm(reg), printed_rm(rm)),
         XmmRole::Store => Operands::two(printed_rm(rm), Operand::Xmm(reg)),
-        XmmRole::FromGeneral => Operands::two(Operand::Xmm(reg), printed_general(wide, rm)),
+        XmmRole::FromGeneral | XmmRole::MoveFromGeneral => {
+            Operands::two(Operand::Xmm(reg), printed_general(wide, rm))
+        }
         XmmRole::ToGeneral => Operands::two(general_reg(wide, reg), printed_rm(rm)),
-        XmmRole::StoreGeneral => Operands::two(printed_general(wide, rm), Operand::Xmm(reg)),
+        XmmRole::MoveToGeneral => Operands::two(printed_general(wide, rm), Operand::Xmm(reg)),
         XmmRole::Rounding => Operands::three(
             Operand::Xmm(reg),
             printed_rm(rm),
@@ -246,51 +218,10 @@ fn general_reg(wide: bool, number: u8) -> Operand
     requires { number < 16 }
     ensures { result ≡ general wide number }
 {
-    let registers = [
-        Reg::Rax,
-        Reg::Rcx,
-        Reg::Rdx,
-        Reg::Rbx,
-        Reg::Rsp,
-        Reg::Rbp,
-        Reg::Rsi,
-        Reg::Rdi,
-        Reg::R8,
-        Reg::R9,
-        Reg::R10,
-        Reg::R11,
-        Reg::R12,
-        Reg::R13,
-        Reg::R14,
-        Reg::R15,
-    ];
-    let reg = registers[usize::from(number)];
+    let reg = Reg::from_number(number);
     if wide {
         Operand::Reg(Width::W64, reg)
     } else {
         Operand::Reg(Width::W32, reg)
-    }
-}
-
-fn role_of(row: XmmRow) -> XmmRole
-    ensures { result ≡ xmm_role row }
-{
-    match row {
-        XmmRow::MovupsStore
-        | XmmRow::MovupdStore
-        | XmmRow::MovssStore
-        | XmmRow::MovsdStore
-        | XmmRow::MovapsStore
-        | XmmRow::MovapdStore
-        | XmmRow::MovdqaStore
-        | XmmRow::MovdquStore
-        | XmmRow::MovqStore => XmmRole::Store,
-        XmmRow::MovdStore => XmmRole::StoreGeneral,
-        XmmRow::MovdLoad | XmmRow::Cvtsi2ss | XmmRow::Cvtsi2sd => XmmRole::FromGeneral,
-        XmmRow::Cvttss2si | XmmRow::Cvttsd2si | XmmRow::Cvtss2si | XmmRow::Cvtsd2si => {
-            XmmRole::ToGeneral
-        }
-        XmmRow::Roundss | XmmRow::Roundsd => XmmRole::Rounding,
-        _ => XmmRole::Load,
     }
 }

@@ -26,7 +26,7 @@ use Rattle.vw_insn.specs.declared.operations.MulDivOp.{MulDivOp}
 use Rattle.vw_insn.specs.declared.instruction.Insn.{Insn}
 use Rattle.vw_insn.specs.declared.instruction.Insn.TheVariants as insn
 use Rattle.vw_insn.specs.Listed.{IsWide}
-use Rattle.vw_insn.specs.Words.{Registers, Flags, number, low, merged, put, word_of}
+use Rattle.vw_insn.specs.Words.{Registers, Flags, number, low, with_low, put, word_of}
 use Rattle.vw_insn.specs.Arithmetic.{alu_result, alu_flags, shift_result, masked_count, flags_of_difference, wrapped_sum, wrapped_difference}
 use Rattle.vw_insn.specs.Effect.{Open, Access, After, Next, reads_place, reads_source, place_word, source_word, put_place, writing, going}
 use Rattle.vw_stmt.specs.declared.operands.Operand.{Operand}
@@ -38,7 +38,8 @@ use Rattle.vw_stmt.specs.declared.statement.Stmt.TheVariants as stmt
 use Rattle.vw_stmt.specs.Environment.{Environment, Pick, start, operand_value}
 use Rattle.vw_lift.specs.Lifted.{operand_of, fetched, fetched_source, left_open, any_flags, is_itself, computed, is_times_16}
 use Rattle.vw_lift.specs.Simulation.{first_loaded, finish, AreWords, GivesWords}
-use Rattle.vw_lift.proofs.Numbers.{zero_word, low_word, merged_word, alu_word, put_words, difference_self}
+use Rattle.vw_stmt.proofs.WordLemmas.{put_word}
+use Rattle.vw_lift.proofs.Numbers.{zero_word, low_word, low_written, alu_word, difference_self}
 use Rattle.vw_lift.proofs.OperandRuns.{Ends, after_reads, chosen, pick_number, pick_flags, fetch_any, fetch_both, fetch_exact, fetch_source, open_place, open_register, place_word_word, source_word_word, loaded_both}
 use Rattle.vw_lift.proofs.MoveRuns.{Runs, MayDoThis}
 
@@ -60,11 +61,11 @@ sub_cancels c x h = difference_self x h
 xor_cancels : Cancels alu.Xor
 xor_cancels c x h = xor_self x
 
-merged_zero : (w : Width) (old : ℕ) → IsWide w → merged w old (low w 0) ≡ 0
-merged_zero W32 old wide = refl
-merged_zero W64 old wide = refl
-merged_zero W16 old wide = absurd wide
-merged_zero W8 old wide = absurd wide
+with_low_zero : (w : Width) (old : ℕ) → IsWide w → with_low w old (low w 0) ≡ 0
+with_low_zero W32 old wide = refl
+with_low_zero W64 old wide = refl
+with_low_zero W16 old wide = absurd wide
+with_low_zero W8 old wide = absurd wide
 
 shift_word : (op : ShiftOp) (w : Width) (by : Count) (chosen x : ℕ) → chosen < 2 ^ 64 → shift_result op w by chosen x < 2 ^ 64
 shift_word shift.Shl w (count.Imm n) chosen x h = mod_below (x * 2 ^ masked_count w n) (2 ^ 64) (omega arith)
@@ -188,8 +189,8 @@ module _ (loads : (ℕ → ℕ) → ℕ → ℕ → ℕ) (stores : (ℕ → ℕ)
             pick,
             (
               pick,
-              sym (ap (λ (y : ℕ). finish stores bytes [] (after (merged w (registers (number r)) (low w y))) 0) is_zero
-                  ∙ ap (λ (v : ℕ). finish stores bytes [] (after v) 0) (merged_zero w (registers (number r)) wide)),
+              sym (ap (λ (y : ℕ). finish stores bytes [] (after (with_low w (registers (number r)) (low w y))) 0) is_zero
+                  ∙ ap (λ (v : ℕ). finish stores bytes [] (after v) 0) (with_low_zero w (registers (number r)) wide)),
             ),
           ),
         ),
@@ -365,7 +366,7 @@ module _ (loads : (ℕ → ℕ) → ℕ → ℕ → ℕ) (stores : (ℕ → ℕ)
       (λ t. (t, (flags_pick choice.flags, (pick_number loads stores next registers bytes choice x h, (pick, refl))))))
 
   pub bits_op : AreWords registers → (op : BitsOp) (w : Width) (dst : Reg) (src : Place) → Run (insn.Bits op w dst src)
-  bits_op words bits.Popcnt w dst src = whole_register w src dst _ (merged_word w (registers (number dst)) (choice.numbers 0) (words (number dst)) (choice.are_words 0))
+  bits_op words bits.Popcnt w dst src = whole_register w src dst _ (low_written w (registers (number dst)) (choice.numbers 0) (words (number dst)) (choice.are_words 0))
   bits_op words bits.Bsf w dst src = whole_register w src dst (choice.numbers 0) (choice.are_words 0)
   bits_op words bits.Bsr w dst src = whole_register w src dst (choice.numbers 0) (choice.are_words 0)
   bits_op words bits.Tzcnt w dst src = whole_register w src dst (choice.numbers 0) (choice.are_words 0)
@@ -379,7 +380,7 @@ module _ (loads : (ℕ → ℕ) → ℕ → ℕ → ℕ) (stores : (ℕ → ℕ)
       let x : ℕ = choice.numbers 0 in
       let y : ℕ = choice.numbers 1 in
       let first : Registers = put_place registers w (place.Reg Rax) (low w x) in
-      let first_words : AreWords first = put_words registers 0 (merged w (registers 0) (low w x)) words (merged_word w (registers 0) x (words 0) (choice.are_words 0)) in
+      let first_words : AreWords first = put_word registers 0 (with_low w (registers 0) (low w x)) words (low_written w (registers 0) x (words 0) (choice.are_words 0)) in
       let after : After = going (put_place first w (place.Reg Rdx) (low w y)) choice.flags Next in
       from_zero _ rs after
       (fetch_any loads stores next registers bytes choice flags w src [] 0 (any_flags ∷ stmt.Open (var.Reg Rax) w ∷ stmt.Open (var.Reg Rdx) w ∷ []) (stmt.Flow flow.Next ∷ []) (finish stores bytes rs after)
@@ -389,7 +390,7 @@ module _ (loads : (ℕ → ℕ) → ℕ → ℕ → ℕ) (stores : (ℕ → ℕ)
       (e.0, (flags_pick choice.flags, e.1))))
 
   pub muldiv : AreWords registers → (op : MulDivOp) (w : Width) (src : Place) → Run (insn.MulDiv op w src)
-  muldiv words op W8 src = whole_register W8 src Rax _ (merged_word W16 (registers 0) (choice.numbers 0) (words 0) (choice.are_words 0))
+  muldiv words op W8 src = whole_register W8 src Rax _ (low_written W16 (registers 0) (choice.numbers 0) (words 0) (choice.are_words 0))
   muldiv words op W16 src = two_products words W16 src
   muldiv words op W32 src = two_products words W32 src
   muldiv words op W64 src = two_products words W64 src

@@ -1,7 +1,6 @@
 -- The form of the lists: their fields, their length, and that nothing accesses memory after a write.
-use Rattle.std.proofs.Common.{◌≡◌, ℕ, ◌+◌, ◌≤◌, Bool, true, false, ◌||◌, ◌&&◌, if◌then◌else◌, List, [], ◌∷◌, ◌++◌, length, ◌==◌, refl, sym, subst, arith, inl, inr, ℤ, pos}
+use Rattle.std.proofs.Common.{◌≡◌, ℕ, ◌+◌, ◌≤◌, Bool, true, false, ◌&&◌, if◌then◌else◌, List, [], ◌∷◌, ◌++◌, length, refl, sym, subst, arith, inl, inr, ℤ, pos}
 use Rattle.std.specs.List.{AllByRecursion}
-use Rattle.std.proofs.lemmas.Bool.Decides.{nat_tests}
 use Rattle.vw_insn.specs.declared.registers.Width.{Width}
 use Rattle.vw_insn.specs.declared.registers.Width.TheVariants.{W8, W16, W32, W64}
 use Rattle.vw_insn.specs.declared.registers.Reg.{Reg}
@@ -21,12 +20,15 @@ use Rattle.vw_insn.specs.declared.operations.ShiftOp.{ShiftOp}
 use Rattle.vw_insn.specs.declared.operations.MulDivOp.{MulDivOp}
 use Rattle.vw_insn.specs.declared.operands.Count.{Count}
 use Rattle.vw_insn.specs.declared.xmm.XmmRow.{XmmRow}
-use Rattle.vw_insn.specs.declared.xmm.XmmRow.TheVariants.{MovdLoad, MovdStore, Cvtsi2ss, Cvtsi2sd, Cvttss2si, Cvttsd2si, Cvtss2si, Cvtsd2si, Ucomiss, Ucomisd, Comiss, Comisd}
+use Rattle.vw_insn.specs.declared.xmm.XmmRole.{XmmRole}
+use Rattle.vw_insn.specs.declared.xmm.XmmRole.TheVariants as role
+use Rattle.vw_insn.specs.declared.xmm.XmmSize.{XmmSize}
+use Rattle.vw_insn.specs.declared.xmm.XmmSize.TheVariants as size
 use Rattle.vw_insn.specs.declared.instruction.Insn.{Insn}
 use Rattle.vw_insn.specs.declared.instruction.Insn.TheVariants as insn
 use Rattle.vw_insn.specs.Listed.{IsListed, IsMem, IsPlace, IsFullPlace, IsSource, IsFullSource, IsTested, IsNarrow, IsWide, IsXmmOperand}
 use Rattle.vw_insn.specs.Words.{bytes_in, word_of}
-use Rattle.vw_insn.specs.XmmEffect.{xmm_size, is_xmm_store}
+use Rattle.vw_insn.specs.XmmTable.{xmm_traits, xmm_role, bytes_of, is_xmm_store}
 use Rattle.vw_insn.specs.Effect.{at_rsp, below_rsp}
 use Rattle.vw_stmt.specs.declared.operands.Operand.{Operand}
 use Rattle.vw_stmt.specs.declared.operands.Operand.TheVariants as operand
@@ -39,7 +41,8 @@ use Rattle.vw_stmt.specs.declared.statement.Stmt.TheVariants as stmt
 use Rattle.vw_stmt.specs.Lifted.{IsLifted, IsLoad, IsWordSize, IsXmmSize, IsFact}
 use Rattle.vw_lift.specs.Lifted.{var_of, operand_of, load_tmp, fetched, fetched_source, left_open, any_flags, cancels, is_itself, computed, alu_written, compared_at, is_times_16, copied, set_to, pushed, general_open, xmm_compared, lifted}
 use Rattle.vw_lift.specs.Simulation.{writes_memory, is_silent, stores_last, is_empty, is_flow, ends_with_flow, HasWord, IsInForm}
-use Rattle.vw_lift.proofs.Numbers.{word_of_word, low_word}
+use Rattle.vw_stmt.proofs.WordLemmas.{word_of_word}
+use Rattle.vw_lift.proofs.Numbers.{low_word}
 
 record Form (n : ℕ) (stmts : List Stmt) : Type 0 where
   pub fields : AllByRecursion IsLifted stmts
@@ -252,19 +255,12 @@ pushed_form b = record { fields = ((inr (inr (inr refl)), pushed_mem), (tt, (tt,
 popped_form : (r : Reg) → Form 4 (load_tmp W64 at_rsp ∷ stmt.Sum (var.Reg Rsp) (var.Reg Rsp) (operand.Imm (pos 8)) false ∷ stmt.Copy (var.Reg r) var.Tmp ∷ stmt.Flow flow.Next ∷ [])
 popped_form r = record { fields = ((load_size W64, stack_mem), (tt, (tt, (tt, tt)))); few = omega arith; stores = refl; flow = refl }
 
-xmm_size_tested : (row : XmmRow) (wide : Bool) → (xmm_size row wide == 4 || (xmm_size row wide == 8 || xmm_size row wide == 16)) ≡ true
-xmm_size_tested MovdLoad true = refl
-xmm_size_tested MovdLoad false = refl
-xmm_size_tested MovdStore true = refl
-xmm_size_tested MovdStore false = refl
-xmm_size_tested Cvtsi2ss true = refl
-xmm_size_tested Cvtsi2ss false = refl
-xmm_size_tested Cvtsi2sd true = refl
-xmm_size_tested Cvtsi2sd false = refl
-xmm_size_tested _ wide = refl
-
-xmm_size_of : (n : ℕ) → (n == 4 || (n == 8 || n == 16)) ≡ true → IsXmmSize n
-xmm_size_of n h = grind (arith, nat_tests)
+xmm_size_of : (size : XmmSize) (wide : Bool) → IsXmmSize (bytes_of size wide)
+xmm_size_of size.Bytes4 wide = inl refl
+xmm_size_of size.Bytes8 wide = inr (inl refl)
+xmm_size_of size.Bytes16 wide = inr (inr refl)
+xmm_size_of size.ByWide true = inr (inl refl)
+xmm_size_of size.ByWide false = inl refl
 
 -- what comes after the access: nothing that accesses memory
 record Rest (stmts : List Stmt) : Type 0 where
@@ -278,28 +274,22 @@ rest_two : (s : Stmt) → IsLifted s → is_silent (s ∷ stmt.Flow flow.Next �
 rest_two s l e step =
     record { fields = (l, (tt, tt)); few = omega arith; silent = e; stores = (last_form s l step).stores; flow = (last_form s l step).flow }
 
-xmm_rest : (row : XmmRow) (wide : Bool) (reg : ℕ) (rm : XmmOperand) → Rest ((general_open row wide reg rm ++ xmm_compared row) ++ stmt.Flow flow.Next ∷ [])
-xmm_rest Cvttss2si wide reg rm = rest_two _ tt refl refl
-xmm_rest Cvttsd2si wide reg rm = rest_two _ tt refl refl
-xmm_rest Cvtss2si wide reg rm = rest_two _ tt refl refl
-xmm_rest Cvtsd2si wide reg rm = rest_two _ tt refl refl
-xmm_rest MovdStore wide reg (xmm.Reg n) = rest_two _ tt refl refl
-xmm_rest MovdStore wide reg (xmm.Mem mem) = record { fields = (tt, tt); few = omega arith; silent = refl; stores = refl; flow = refl }
-xmm_rest Ucomiss wide reg rm = rest_two _ tt refl refl
-xmm_rest Ucomisd wide reg rm = rest_two _ tt refl refl
-xmm_rest Comiss wide reg rm = rest_two _ tt refl refl
-xmm_rest Comisd wide reg rm = rest_two _ tt refl refl
+xmm_rest : (what : XmmRole) (wide : Bool) (reg : ℕ) (rm : XmmOperand) → Rest ((general_open what wide reg rm ++ xmm_compared what) ++ stmt.Flow flow.Next ∷ [])
+xmm_rest role.ToGeneral wide reg rm = rest_two _ tt refl refl
+xmm_rest role.MoveToGeneral wide reg (xmm.Reg n) = rest_two _ tt refl refl
+xmm_rest role.MoveToGeneral wide reg (xmm.Mem mem) = record { fields = (tt, tt); few = omega arith; silent = refl; stores = refl; flow = refl }
+xmm_rest role.Compare wide reg rm = rest_two _ tt refl refl
 xmm_rest _ wide reg rm = record { fields = (tt, tt); few = omega arith; silent = refl; stores = refl; flow = refl }
 
 xmm_form : (row : XmmRow) (wide : Bool) (reg : ℕ) (rm : XmmOperand) (imm : ℕ) → IsXmmOperand rm → IsInForm (lifted (insn.Xmm row wide reg rm imm))
 xmm_form row wide reg (xmm.Reg n) imm is =
-    let rest : Rest ((general_open row wide reg (xmm.Reg n) ++ xmm_compared row) ++ stmt.Flow flow.Next ∷ []) = xmm_rest row wide reg (xmm.Reg n) in
-    record { fields = rest.fields; few = let k : length ((general_open row wide reg (xmm.Reg n) ++ xmm_compared row) ++ stmt.Flow flow.Next ∷ []) ≤ 3 = rest.few in omega arith; stores = rest.stores; flow = rest.flow }
+    let rest : Rest ((general_open (xmm_role row) wide reg (xmm.Reg n) ++ xmm_compared (xmm_role row)) ++ stmt.Flow flow.Next ∷ []) = xmm_rest (xmm_role row) wide reg (xmm.Reg n) in
+    record { fields = rest.fields; few = let k : length ((general_open (xmm_role row) wide reg (xmm.Reg n) ++ xmm_compared (xmm_role row)) ++ stmt.Flow flow.Next ∷ []) ≤ 3 = rest.few in omega arith; stores = rest.stores; flow = rest.flow }
 xmm_form row wide reg (xmm.Mem mem) imm is =
-    let rest : Rest ((general_open row wide reg (xmm.Mem mem) ++ xmm_compared row) ++ stmt.Flow flow.Next ∷ []) = xmm_rest row wide reg (xmm.Mem mem) in
+    let rest : Rest ((general_open (xmm_role row) wide reg (xmm.Mem mem) ++ xmm_compared (xmm_role row)) ++ stmt.Flow flow.Next ∷ []) = xmm_rest (xmm_role row) wide reg (xmm.Mem mem) in
     record {
-      fields = ((xmm_size_of (xmm_size row wide) (xmm_size_tested row wide), is), rest.fields);
-      few = let k : length ((general_open row wide reg (xmm.Mem mem) ++ xmm_compared row) ++ stmt.Flow flow.Next ∷ []) ≤ 3 = rest.few in omega arith;
+      fields = ((xmm_size_of (xmm_traits row).2 wide, is), rest.fields);
+      few = let k : length ((general_open (xmm_role row) wide reg (xmm.Mem mem) ++ xmm_compared (xmm_role row)) ++ stmt.Flow flow.Next ∷ []) ≤ 3 = rest.few in omega arith;
       stores = always (is_xmm_store row) _ _ rest.silent rest.stores;
       flow = rest.flow;
     }

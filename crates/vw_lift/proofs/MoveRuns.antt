@@ -15,7 +15,7 @@ use Rattle.vw_insn.specs.declared.instruction.Insn.{Insn}
 use Rattle.vw_insn.specs.declared.instruction.Insn.TheVariants as insn
 use Rattle.vw_insn.specs.Conditions.{holds}
 use Rattle.vw_insn.specs.Listed.{IsNarrow, IsFullPlace, IsFullSource}
-use Rattle.vw_insn.specs.Words.{Registers, Flags, number, register_of, bytes_in, low, merged, word_of}
+use Rattle.vw_insn.specs.Words.{Registers, Flags, number, register_of, bytes_in, low, with_low, word_of}
 use Rattle.vw_insn.specs.Effect.{Open, Access, After, Next, reads_place, reads_source, place_word, source_word, put_place, writing, going, address}
 use Rattle.vw_stmt.specs.declared.operands.Operand.TheVariants as operand
 use Rattle.vw_stmt.specs.declared.operands.Var.TheVariants as var
@@ -26,7 +26,8 @@ use Rattle.vw_stmt.specs.Environment.{Environment, Pick, start, var_value, opera
 use Rattle.vw_stmt.specs.Does.{Does}
 use Rattle.vw_lift.specs.Lifted.{var_of, operand_of, fetched_source, left_open, lifted}
 use Rattle.vw_lift.specs.Simulation.{first_loaded, finish, MayDo, AreWords, GivesWords}
-use Rattle.vw_lift.proofs.Numbers.{zero_word, word_of_word, merged_word, stored_low, put_words, bit_low, bit_word}
+use Rattle.vw_stmt.proofs.WordLemmas.{word_of_word, put_word}
+use Rattle.vw_lift.proofs.Numbers.{zero_word, low_written, stored_low, bit_low, bit_word}
 use Rattle.vw_lift.proofs.OperandRuns.{Ends, after_reads, chosen, taken, fetch_any_source, fetch_exact, fetch_source, open_place, open_register, source_word_word, loaded_source}
 
 module _ (loads : (ℕ → ℕ) → ℕ → ℕ → ℕ) (stores : (ℕ → ℕ) → ℕ → ℕ → ℕ → ℕ → ℕ) (next : ℕ) (registers : Registers) (flags : Flags) (bytes : ℕ → ℕ) (choice : Open) where
@@ -151,7 +152,7 @@ module _ (loads : (ℕ → ℕ) → ℕ → ℕ → ℕ) (stores : (ℕ → ℕ)
       (going (put_place (put_place registers w (place.Reg a) (low w x)) w (place.Reg b) (low w y)) flags Next)
   two_open words w a b x y hx hy =
       let first : Registers = put_place registers w (place.Reg a) (low w x) in
-      let first_words : AreWords first = put_words registers (number a) (merged w (registers (number a)) (low w x)) words (merged_word w (registers (number a)) x (words (number a)) hx) in
+      let first_words : AreWords first = put_word registers (number a) (with_low w (registers (number a)) (low w x)) words (low_written w (registers (number a)) x (words (number a)) hx) in
       let after : ℕ → Environment = finish stores bytes [] (going (put_place first w (place.Reg b) (low w y)) flags Next) in
       let e : Ends loads stores next registers bytes choice (stmt.Open (var.Reg a) w ∷ stmt.Open (var.Reg b) w ∷ stmt.Flow flow.Next ∷ []) (start registers 0 flags bytes) after =
       open_register loads stores next registers bytes choice words flags w a [] 0 x (stmt.Open (var.Reg b) w ∷ stmt.Flow flow.Next ∷ []) after hx

@@ -7,7 +7,7 @@ use Rattle.vw_insn.specs.declared.operands.Place.{Place}
 use Rattle.vw_insn.specs.declared.operands.Place.TheVariants as place
 use Rattle.vw_insn.specs.declared.operands.Source.{Source}
 use Rattle.vw_insn.specs.declared.operands.Source.TheVariants as source
-use Rattle.vw_insn.specs.Words.{Registers, Flags, number, register_of, bytes_in, low, merged, with_high, put}
+use Rattle.vw_insn.specs.Words.{Registers, Flags, number, register_of, bytes_in, low, with_low, with_high, put}
 use Rattle.vw_insn.specs.Effect.{Open, Access, After, Next, reads_place, reads_source, place_word, source_word, put_place, writing, going, address}
 use Rattle.vw_stmt.specs.declared.operands.Var.TheVariants as var
 use Rattle.vw_stmt.specs.declared.statement.Flow.TheVariants as flow
@@ -17,7 +17,8 @@ use Rattle.vw_stmt.specs.Environment.{Environment, Pick, start, var_value, opera
 use Rattle.vw_stmt.specs.Does.{Does, width_of, opened}
 use Rattle.vw_lift.specs.Lifted.{var_of, operand_of, fetched, fetched_source, left_open}
 use Rattle.vw_lift.specs.Simulation.{first_loaded, finish, AreWords, GivesWords}
-use Rattle.vw_lift.proofs.Numbers.{zero_word, low_word, word_of_word, merged_word, high_word, opened_merged, stored_opened, loaded_low}
+use Rattle.vw_stmt.proofs.WordLemmas.{word_of_word}
+use Rattle.vw_lift.proofs.Numbers.{zero_word, low_word, low_written, high_word, opened_with_low, stored_opened, loaded_low}
 
 module _ (loads : (ℕ → ℕ) → ℕ → ℕ → ℕ) (stores : (ℕ → ℕ) → ℕ → ℕ → ℕ → ℕ → ℕ) (next : ℕ) (registers : Registers) (bytes : ℕ → ℕ) (choice : Open) where
   -- the environment after reads, with these flags and this number in tmp
@@ -51,7 +52,7 @@ module _ (loads : (ℕ → ℕ) → ℕ → ℕ → ℕ) (stores : (ℕ → ℕ)
       let P : List Access → Type 0 = λ qs. Ends (a ++ b) (after_reads flags qs tmp) after in
       subst P (append-nil rs) (f tmp)
   fetch_any flags w (place.Mem mem) rs tmp a b after f =
-      let t : ℕ = merged w tmp (low (width_of (bytes_in w)) (loads bytes (address next registers mem) (bytes_in w))) in
+      let t : ℕ = with_low w tmp (low (width_of (bytes_in w)) (loads bytes (address next registers mem) (bytes_in w))) in
       ((f t).0, (chosen, (f t).1))
 
   -- it is fetched, and its low bits are those of the operand
@@ -66,7 +67,7 @@ module _ (loads : (ℕ → ℕ) → ℕ → ℕ → ℕ) (stores : (ℕ → ℕ)
       (t, (f t refl).0, omega arith, (f t refl).1)
   fetch_exact flags w (place.Mem mem) a b after f =
       let x : ℕ = loads bytes (address next registers mem) (bytes_in w) in
-      let t : ℕ = merged w 0 (low (width_of (bytes_in w)) x) in
+      let t : ℕ = with_low w 0 (low (width_of (bytes_in w)) x) in
       (0, (f t (loaded_low w 0 x)).0, zero_word, (chosen, (f t (loaded_low w 0 x)).1))
 
   pub fetch_source : (flags : Flags) (w : Width) (s : Source) (a b : List Stmt) (after : ℕ → Environment)
@@ -91,10 +92,10 @@ module _ (loads : (ℕ → ℕ) → ℕ → ℕ → ℕ) (stores : (ℕ → ℕ)
       let old : ℕ = registers (number r) in (
         tmp,
         (
-          pick_number (merged w old (low w x)) (merged_word w old x (words (number r)) h),
+          pick_number (with_low w old (low w x)) (low_written w old x (words (number r)) h),
           (
             chosen,
-            ap (λ (v : ℕ). finish stores bytes rs (going (put registers (number r) v) flags Next) tmp) (opened_merged w old x),
+            ap (λ (v : ℕ). finish stores bytes rs (going (put registers (number r) v) flags Next) tmp) (opened_with_low w old x),
           ),
         ),
       )
@@ -125,7 +126,7 @@ module _ (loads : (ℕ → ℕ) → ℕ → ℕ → ℕ) (stores : (ℕ → ℕ)
   fetch_both flags w (place.High h) s tmp a b after f = fetch_any_source flags w s [] tmp a b after f
   fetch_both flags w (place.Mem mem) s tmp a b after f =
       let at : ℕ = address next registers mem in
-      let t : ℕ = merged w tmp (low (width_of (bytes_in w)) (loads bytes at (bytes_in w))) in
+      let t : ℕ = with_low w tmp (low (width_of (bytes_in w)) (loads bytes at (bytes_in w))) in
       let g : Ends ((fetched_source w s ++ a) ++ b) (after_reads flags (record { at = at; size = bytes_in w } ∷ []) t) after = fetch_any_source flags w s (record { at = at; size = bytes_in w } ∷ []) t a b after f in
       (g.0, (chosen, g.1))
 
@@ -137,7 +138,7 @@ module _ (loads : (ℕ → ℕ) → ℕ → ℕ → ℕ) (stores : (ℕ → ℕ)
   open_register words flags w r rs tmp x stmts after h d =
       let old : ℕ = registers (number r) in
       let P : ℕ → Type 0 = λ v. Does loads stores next stmts (record { registers = put registers (number r) v; tmp = tmp; flags = flags; bytes = bytes; reads = rs; writes = []; transfer = Next }) (after d.0) in
-      (d.0, (pick_number (merged w old (low w x)) (merged_word w old x (words (number r)) h), subst P (sym (opened_merged w old x)) d.1))
+      (d.0, (pick_number (with_low w old (low w x)) (low_written w old x (words (number r)) h), subst P (sym (opened_with_low w old x)) d.1))
 
   pub place_word_word : AreWords registers → (loaded : ℕ) (p : Place) → loaded < 2 ^ 64 → place_word registers loaded p < 2 ^ 64
   place_word_word words loaded (place.Reg r) h = words (number r)

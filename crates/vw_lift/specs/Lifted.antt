@@ -4,7 +4,7 @@
 -- An operand in memory is loaded to tmp first, and a result that goes to memory is stored from tmp. tmp also stands for
 -- the byte of ah, ch, dh or bh as an operand, of which nothing is known. These four have 8 bits (SDM volume 1,
 -- 3.4.1.1), and where one is written any word is in the register that it is a part of.
-use Rattle.std.specs.Prelude.{ℕ, ◌==◌, Bool, true, false, if◌then◌else◌, ◌&&◌, ℤ, pos, Option, None, Some, List, [], ◌∷◌, ◌++◌, slice_index_or}
+use Rattle.std.specs.Prelude.{ℕ, ◌==◌, Bool, true, false, if◌then◌else◌, ◌&&◌, ℤ, pos, Option, None, Some, List, [], ◌∷◌, ◌++◌}
 use Rattle.vw_insn.specs.declared.registers.Width.{Width}
 use Rattle.vw_insn.specs.declared.registers.Width.TheVariants.{W8, W16, W32, W64}
 use Rattle.vw_insn.specs.declared.registers.Reg.{Reg}
@@ -25,12 +25,12 @@ use Rattle.vw_insn.specs.declared.operations.ShiftOp.TheVariants as shift
 use Rattle.vw_insn.specs.declared.operations.UnaryOp.{UnaryOp}
 use Rattle.vw_insn.specs.declared.operations.UnaryOp.TheVariants as unary
 use Rattle.vw_insn.specs.declared.xmm.XmmRow.{XmmRow}
-use Rattle.vw_insn.specs.declared.xmm.XmmRow.TheVariants.{MovdStore, Cvttss2si, Cvttsd2si, Cvtss2si, Cvtsd2si, Ucomiss, Ucomisd, Comiss, Comisd}
+use Rattle.vw_insn.specs.declared.xmm.XmmRole.{XmmRole}
+use Rattle.vw_insn.specs.declared.xmm.XmmRole.TheVariants as role
 use Rattle.vw_insn.specs.declared.instruction.Insn.{Insn}
 use Rattle.vw_insn.specs.declared.instruction.Insn.TheVariants as insn
-use Rattle.vw_insn.specs.Words.{number, register_of, bytes_in, low, word_of}
-use Rattle.vw_insn.specs.Text.{numbered}
-use Rattle.vw_insn.specs.XmmEffect.{xmm_size, is_xmm_store}
+use Rattle.vw_insn.specs.Words.{number, register, register_of, bytes_in, low, word_of}
+use Rattle.vw_insn.specs.XmmTable.{xmm_role, xmm_size, is_xmm_store}
 use Rattle.vw_insn.specs.Effect.{at_rsp, below_rsp}
 use Rattle.vw_stmt.specs.declared.operands.Var.{Var}
 use Rattle.vw_stmt.specs.declared.operands.Var.TheVariants as var
@@ -196,9 +196,6 @@ abbrev pub width_by_wide : Bool → Width
 width_by_wide true = W64
 width_by_wide false = W32
 
-abbrev pub register_at : ℕ → Reg
-register_at n = slice_index_or numbered n Rax
-
 -- an operand of an XMM instruction in memory is read or written
 abbrev pub touched : XmmRow → Bool → XmmOperand → List Stmt
 touched row wide (xmm.Reg n) = []
@@ -206,21 +203,15 @@ touched row wide (xmm.Mem mem) = stmt.Touch mem (xmm_size row wide) (is_xmm_stor
 
 -- The general register that it writes: conversions to integers that of the reg field, and a move of 32 or 64 bits that
 -- of the second operand.
-abbrev pub general_open : XmmRow → Bool → ℕ → XmmOperand → List Stmt
-general_open Cvttss2si wide reg rm = stmt.Open (var.Reg (register_at reg)) (width_by_wide wide) ∷ []
-general_open Cvttsd2si wide reg rm = stmt.Open (var.Reg (register_at reg)) (width_by_wide wide) ∷ []
-general_open Cvtss2si wide reg rm = stmt.Open (var.Reg (register_at reg)) (width_by_wide wide) ∷ []
-general_open Cvtsd2si wide reg rm = stmt.Open (var.Reg (register_at reg)) (width_by_wide wide) ∷ []
-general_open MovdStore wide reg (xmm.Reg n) = stmt.Open (var.Reg (register_at n)) (width_by_wide wide) ∷ []
-general_open row wide reg rm = []
+abbrev pub general_open : XmmRole → Bool → ℕ → XmmOperand → List Stmt
+general_open role.ToGeneral wide reg rm = stmt.Open (var.Reg (register reg)) (width_by_wide wide) ∷ []
+general_open role.MoveToGeneral wide reg (xmm.Reg n) = stmt.Open (var.Reg (register n)) (width_by_wide wide) ∷ []
+general_open _ wide reg rm = []
 
--- UCOMISS, UCOMISD, COMISS and COMISD write flags
-abbrev pub xmm_compared : XmmRow → List Stmt
-xmm_compared Ucomiss = any_flags ∷ []
-xmm_compared Ucomisd = any_flags ∷ []
-xmm_compared Comiss = any_flags ∷ []
-xmm_compared Comisd = any_flags ∷ []
-xmm_compared row = []
+-- comparisons write flags
+abbrev pub xmm_compared : XmmRole → List Stmt
+xmm_compared role.Compare = any_flags ∷ []
+xmm_compared _ = []
 
 -- what an instruction does but for its transfer of control
 abbrev pub steps : Insn → List Stmt
@@ -247,7 +238,7 @@ steps (insn.Set cond dst) = left_open W8 dst
 steps (insn.Bits op w dst src) = fetched w src ++ any_flags ∷ stmt.Open (var.Reg dst) W64 ∷ []
 steps (insn.Bt w a bit) = any_flags ∷ []
 steps (insn.Bswap w dst) = stmt.Open (var.Reg dst) w ∷ []
-steps (insn.Xmm row wide reg rm imm) = touched row wide rm ++ general_open row wide reg rm ++ xmm_compared row
+steps (insn.Xmm row wide reg rm imm) = touched row wide rm ++ general_open (xmm_role row) wide reg rm ++ xmm_compared (xmm_role row)
 steps (insn.Jcc cond rel) = []
 steps (insn.Jump rel) = []
 steps (insn.Call rel) = []

@@ -35,7 +35,7 @@ fn cancels(op: AluOp, w: Width) -> bool
     }
 }
 
-fn computed(op: AluOp, w: Width, reg: Reg, source: Source) -> Stmt
+fn compute_step(op: AluOp, w: Width, reg: Reg, source: Source) -> Stmt
     ensures { result ≡ computed op w reg source }
 {
     let dst = Var::Reg(reg);
@@ -71,14 +71,14 @@ fn add_written(stmts: &mut Stmts, op: AluOp, w: Width, dst: Place, source: Sourc
                     c: 0,
                 });
             } else {
-                stmts.add(computed(op, w, reg, source));
+                stmts.add(compute_step(op, w, reg, source));
             }
         }
         Place::High(_) | Place::Mem(_) => leave_open(stmts, w, dst),
     }
 }
 
-fn compared(w: Width, dst: Place, source: Source) -> Option<Compare>
+fn comparison_of(w: Width, dst: Place, source: Source) -> Option<Compare>
     ensures { result ≡ compared w dst source }
 {
     match dst {
@@ -104,12 +104,12 @@ fn compared(w: Width, dst: Place, source: Source) -> Option<Compare>
     }
 }
 
-fn compared_at(w: Width, dst: Place, source: Source) -> Option<Compare>
+fn comparison_at(w: Width, dst: Place, source: Source) -> Option<Compare>
     ensures { result ≡ compared_at w dst source }
 {
     match w {
         Width::W8 | Width::W16 => None,
-        Width::W32 | Width::W64 => compared(w, dst, source),
+        Width::W32 | Width::W64 => comparison_of(w, dst, source),
     }
 }
 
@@ -121,7 +121,7 @@ pub fn add_alu(stmts: &mut Stmts, op: AluOp, w: Width, dst: Place, source: Sourc
 {
     match op {
         AluOp::Cmp => stmts.add(Stmt::Flags {
-            fact: compared_at(w, dst, source),
+            fact: comparison_at(w, dst, source),
         }),
         _ => {
             stmts.add(ANY_FLAGS);

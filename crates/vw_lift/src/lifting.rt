@@ -7,7 +7,7 @@ use crate::arithmetic::{add_alu, add_products, add_shift, add_unary};
 use crate::laws::{effect_is_a_run, lists_are_in_form};
 use crate::moves::{add_exchange, add_mov, extend_step, lea_step, pop, push};
 use crate::operands::{ANY_FLAGS, fetch, fetch_source, leave_open, operand_of, var_of};
-use crate::xmm::{add_compared, add_general, add_touch};
+use crate::xmm::{add_comparison, add_general, add_touch};
 use std::alloc::Global;
 use vw_insn::{Insn, Place, Reg, Width};
 use vw_stmt::{Flow, Operand, Stmt, Stmts, Var};
@@ -146,8 +146,9 @@ fn add_steps(stmts: &mut Stmts, insn: Insn)
             imm: _,
         } => {
             add_touch(stmts, row, wide, rm);
-            add_general(stmts, row, wide, reg, rm);
-            add_compared(stmts, row);
+            let role = row.role();
+            add_general(stmts, role, wide, reg, rm);
+            add_comparison(stmts, role);
         }
         Insn::Jcc { .. }
         | Insn::Jump { .. }
@@ -159,11 +160,12 @@ fn add_steps(stmts: &mut Stmts, insn: Insn)
     }
 }
 
-/// The statements of an instruction, in order: at most eight, of which the last is a `Flow` and no other is. They
-/// say at most what the instruction does (SDM volume 2, "Operation" of each): they compute exactly what the analysis
-/// of a sandbox rests on, and leave other results and flags open. `insn` is one that an opcode row can give. `at` is
-/// its address and `len` its length in bytes; the list does not depend on them, since an operand on rip and a relative
-/// target count from the next instruction. Takes no memory: `alloc` is kept alone.
+/// The statements of an instruction, in order: at most eight, of which the last is a `Flow` and no
+/// other is. They say at most what the instruction does (SDM volume 2, "Operation" of each): they
+/// compute exactly what the analysis of a sandbox rests on, and leave other results and flags open.
+/// `insn` is one that an opcode row can give. `at` is its address and `len` its length in bytes;
+/// the list does not depend on them, since an operand on rip and a relative target count from the
+/// next instruction. Takes no memory: `alloc` is kept alone.
 pub fn lift(alloc: Global, insn: &Insn, at: u64, len: u32) -> Stmts
     requires { IsListed insn.now }
     ensures list { result ≡ lifted insn.now }

@@ -1,34 +1,13 @@
 //! Moves, addresses and the stack.
 
 ghost use Rattle.std.specs.Prelude.{◌≡◌, ◌+◌, ◌<◌, ◌≤◌, ◌++◌, length, pos};
-ghost use Rattle.vw_insn.specs.Effect.{at_rsp, below_rsp};
 ghost use Rattle.vw_lift.specs.Lifted.{copied, set_to, mov_steps, lea_step, extend_step, exchanged, pushed, popped};
 
-use crate::operands::{bytes_in, fetch_source, leave_open, load_tmp, operand_of};
-use vw_insn::{Base, Mem, Place, Reg, Source, Width};
+use crate::operands::{fetch_source, leave_open, load_tmp, operand_of};
+use vw_insn::{Mem, Place, Reg, Source, Width, word_of};
 use vw_stmt::{Operand, Stmt, Stmts, Var};
 
-fn at_rsp() -> Mem
-    ensures { result ≡ at_rsp }
-{
-    Mem {
-        base: Base::Reg(Reg::Rsp),
-        index: None,
-        disp: 0,
-    }
-}
-
-fn below_rsp() -> Mem
-    ensures { result ≡ below_rsp }
-{
-    Mem {
-        base: Base::Reg(Reg::Rsp),
-        index: None,
-        disp: -8,
-    }
-}
-
-fn copied(w: Width, dst: Reg, src: Var) -> Stmt
+fn copy_step(w: Width, dst: Reg, src: Var) -> Stmt
     ensures { result ≡ copied w dst src }
 {
     let dst = Var::Reg(dst);
@@ -52,11 +31,11 @@ fn set_to(w: Width, dst: Reg, imm: i32) -> Stmt
     match w {
         Width::W64 => Stmt::Set {
             dst,
-            c: i64::from(imm).cast_unsigned(),
+            c: word_of(imm),
         },
         Width::W32 => Stmt::Set {
             dst,
-            c: u64::from(imm.cast_unsigned()),
+            c: Width::W32.low(word_of(imm)),
         },
         Width::W8 | Width::W16 => Stmt::Open { dst, w },
     }
@@ -68,11 +47,11 @@ fn add_mov_to_register(stmts: &mut Stmts, w: Width, dst: Reg, source: Source)
     ensures few { length stmts.new ≤ length stmts.old + 1 }
 {
     match source {
-        Source::Place(Place::Reg(src)) => stmts.add(copied(w, dst, Var::Reg(src))),
-        Source::Place(Place::High(_)) => stmts.add(copied(w, dst, Var::Tmp)),
+        Source::Place(Place::Reg(src)) => stmts.add(copy_step(w, dst, Var::Reg(src))),
+        Source::Place(Place::High(_)) => stmts.add(copy_step(w, dst, Var::Tmp)),
         Source::Place(Place::Mem(mem)) => stmts.add(Stmt::Load {
             dst: Var::Reg(dst),
-            size: bytes_in(w),
+            size: w.bytes(),
             to: w,
             signed: false,
             mem,
@@ -97,7 +76,7 @@ pub fn add_mov(stmts: &mut Stmts, w: Width, dst: Place, source: Source)
             fetch_source(stmts, w, source);
             stmts.add(Stmt::Store {
                 mem,
-                size: bytes_in(w),
+                size: w.bytes(),
                 src: operand_of(source),
             });
         }
@@ -123,7 +102,7 @@ pub fn extend_step(signed: bool, from: Width, to: Width, dst: Reg, src: Place) -
     match src {
         Place::Mem(mem) => Stmt::Load {
             dst,
-            size: bytes_in(from),
+            size: from.bytes(),
             to,
             signed,
             mem,
@@ -194,7 +173,7 @@ pub fn push(stmts: &mut Stmts, src: Operand)
     ensures few { length stmts.new ≤ length stmts.old + 2 }
 {
     stmts.add(Stmt::Store {
-        mem: below_rsp(),
+        mem: Mem::below_rsp(),
         size: 8,
         src,
     });
@@ -207,7 +186,7 @@ pub fn pop(stmts: &mut Stmts, dst: Reg)
     ensures list { stmts.new ≡ stmts.old ++ popped dst }
     ensures few { length stmts.new ≤ length stmts.old + 3 }
 {
-    stmts.add(load_tmp(Width::W64, at_rsp()));
+    stmts.add(load_tmp(Width::W64, Mem::at_rsp()));
     stmts.add(add_to_rsp(false));
     stmts.add(Stmt::Copy {
         dst: Var::Reg(dst),

@@ -1,38 +1,13 @@
 //! How operands are fetched and written.
 
 ghost use Rattle.std.specs.Prelude.{◌≡◌, ◌+◌, ◌<◌, ◌≤◌, ◌++◌, length};
-ghost use Rattle.vw_insn.specs.Words.{bytes_in, register_of};
 ghost use Rattle.vw_lift.specs.Lifted.{var_of, operand_of, load_tmp, fetched, fetched_source, left_open};
 
-use vw_insn::{HighReg, Mem, Place, Reg, Source, Width};
+use vw_insn::{Mem, Place, Source, Width};
 use vw_stmt::{Operand, Stmt, Stmts, Var};
 
 /// Flags of which nothing is known.
 pub const ANY_FLAGS: Stmt = Stmt::Flags { fact: None };
-
-/// How many bytes an operand of a width has.
-pub fn bytes_in(w: Width) -> u8
-    ensures { result ≡ bytes_in w }
-{
-    match w {
-        Width::W8 => 1,
-        Width::W16 => 2,
-        Width::W32 => 4,
-        Width::W64 => 8,
-    }
-}
-
-/// The register of which a high byte is bits 8 to 15.
-pub fn register_of(high: HighReg) -> Reg
-    ensures { result ≡ register_of high }
-{
-    match high {
-        HighReg::Ah => Reg::Rax,
-        HighReg::Ch => Reg::Rcx,
-        HighReg::Dh => Reg::Rdx,
-        HighReg::Bh => Reg::Rbx,
-    }
-}
 
 /// Where an operand is found once memory was loaded.
 pub fn var_of(place: Place) -> Var
@@ -60,7 +35,7 @@ pub fn load_tmp(w: Width, mem: Mem) -> Stmt
 {
     Stmt::Load {
         dst: Var::Tmp,
-        size: bytes_in(w),
+        size: w.bytes(),
         to: w,
         signed: false,
         mem,
@@ -103,14 +78,14 @@ pub fn leave_open(stmts: &mut Stmts, w: Width, place: Place)
             w,
         }),
         Place::High(high) => stmts.add(Stmt::Open {
-            dst: Var::Reg(register_of(high)),
+            dst: Var::Reg(high.register()),
             w: Width::W8,
         }),
         Place::Mem(mem) => {
             stmts.add(Stmt::Open { dst: Var::Tmp, w });
             stmts.add(Stmt::Store {
                 mem,
-                size: bytes_in(w),
+                size: w.bytes(),
                 src: Operand::Var(Var::Tmp),
             });
         }

@@ -5,7 +5,7 @@ use Rattle.std.proofs.lemmas.Nat.{mod_below, and_le_l}
 use Rattle.vw_insn.specs.declared.registers.Width.{Width}
 use Rattle.vw_insn.specs.declared.registers.Width.TheVariants.{W8, W16, W32, W64}
 use Rattle.vw_insn.specs.Listed.{IsNarrow, IsWide}
-use Rattle.vw_insn.specs.Words.{number, low, merged, word_of, put}
+use Rattle.vw_insn.specs.Words.{number, low, with_low, word_of, put}
 use Rattle.vw_insn.specs.Arithmetic.{modulus, has_top_bit, extended}
 use Rattle.vw_insn.specs.Effect.{address, lowered, raised}
 use Rattle.vw_insn.specs.declared.operands.Mem.{Mem}
@@ -36,17 +36,17 @@ modulus_word W16 x h = omega arith
 modulus_word W32 x h = omega arith
 modulus_word W64 x h = h
 
-pub merged_word : (w : Width) (old x : ℕ) → old < 2 ^ 64 → x < modulus w → merged w old x < 2 ^ 64
-merged_word W8 old x o h = omega arith
-merged_word W16 old x o h = omega arith
-merged_word W32 old x o h = omega arith
-merged_word W64 old x o h = h
+pub with_low_word : (w : Width) (old x : ℕ) → old < 2 ^ 64 → x < modulus w → with_low w old x < 2 ^ 64
+with_low_word W8 old x o h = omega arith
+with_low_word W16 old x o h = omega arith
+with_low_word W32 old x o h = omega arith
+with_low_word W64 old x o h = h
 
 pub word_of_word : (i : ℤ) → word_of i < 2 ^ 64
 word_of_word (pos n) = mod_below n (2 ^ 64) (omega arith)
 word_of_word (negsuc n) = omega arith
 
-either : (b : Bool) (m x y : ℕ) → x < m → y < m → (if b then x else y) < m
+pub either : (b : Bool) (m x y : ℕ) → x < m → y < m → (if b then x else y) < m
 either true m x y hx hy = hx
 either false m x y hx hy = hy
 
@@ -107,7 +107,7 @@ set_words e (var.Reg r) x h fits = record { in_registers = put_word e.registers 
 set_words e var.Tmp x h fits = record { in_registers = h.in_registers; in_tmp = fits }
 
 pub set_width_words : (e : Environment) (dst : Var) (w : Width) (x : ℕ) → HasWords e → x < modulus w → HasWords (set_width e dst w x)
-set_width_words e dst w x h fits = set_words e dst (merged w (var_value e dst) x) h (merged_word w (var_value e dst) x (var_word e dst h) fits)
+set_width_words e dst w x h fits = set_words e dst (with_low w (var_value e dst) x) h (with_low_word w (var_value e dst) x (var_word e dst h) fits)
 
 pub opened_word : (w : Width) (x : ℕ) → x < 2 ^ 64 → opened w x < 2 ^ 64
 opened_word W8 x h = h

@@ -11,7 +11,7 @@
 use Rattle.std.specs.Prelude.{◌≡◌, ℕ, ◌*◌, ◌%◌, ◌^◌, ◌==◌, Bool, if◌then◌else◌, Option, None, Some, List, [], ◌∷◌, ◌++◌, bit_and}
 use Rattle.vw_insn.specs.declared.registers.Width.{Width}
 use Rattle.vw_insn.specs.declared.registers.Width.TheVariants.{W8, W16, W32, W64}
-use Rattle.vw_insn.specs.Words.{low, merged, put}
+use Rattle.vw_insn.specs.Words.{low, with_low, put}
 use Rattle.vw_insn.specs.Arithmetic.{extended, wrapped_sum, wrapped_difference, flags_of_difference}
 use Rattle.vw_insn.specs.Conditions.{holds}
 use Rattle.vw_insn.specs.XmmEffect.{stored_bytes}
@@ -30,7 +30,7 @@ width_of size = if size == 1 then W8 else (if size == 2 then W16 else (if size =
 
 -- the environment after a result of a width was written: 32 bits clear the upper half, and 8 or 16 bits keep the others
 abbrev pub set_width : Environment → Var → Width → ℕ → Environment
-set_width e dst w x = set_var e dst (merged w (var_value e dst) x)
+set_width e dst w x = set_var e dst (with_low w (var_value e dst) x)
 
 -- a word of which the bits of a width and, at 8 and 16 bits, all others are open
 abbrev pub opened : Width → ℕ → ℕ

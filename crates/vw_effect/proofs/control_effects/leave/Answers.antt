@@ -8,6 +8,6 @@ pub returns : goal.returns
 returns c = λ number choice loaded chosen.
     let before = c.args.before.now in
     let registers = registers_of before.registers.now in
-    c.going.ensures
+    c.leave_with.ensures
     ∙ ap (λ (f : ℕ → ℕ). going f (status_of before.flags) Next)
     (c.leave_frame.ensures ∙ ap (λ (x : ℕ). put (put (unwound registers) 4 (raised (registers 5))) 5 x) (sym loaded))
