@@ -1,20 +1,16 @@
 -- What every row meets, by computation over the list.
-use Rattle.std.proofs.Common.{◌≡◌, ℕ, ◌+◌, ◌/◌, ◌<◌, ◌≤◌, ◌==◌, ◌⊎◌, Bool, true, false, cond, not, ◌&&◌, ◌||◌, Option, None, Some, refl, sym, ◌∙◌, subst, leb, arith, inl, inr}
-use Rattle.std.proofs.lemmas.Bool.{and_parts, cases_lt, eqb-true, false≢true, leb-true}
+use Rattle.std.proofs.Common.{◌≡◌, ℕ, ◌+◌, ◌/◌, ◌<◌, ◌≤◌, ◌==◌, Bool, true, false, cond, not, ◌&&◌, ◌||◌, Option, None, Some, refl, sym, ◌∙◌, subst, arith, inl, inr}
+use Rattle.std.proofs.lemmas.Bool.{and_parts, or_cases, cases_lt, eqb-true, false≢true, not-true}
 use Rattle.std.specs.List.{list_all}
 use Rattle.vw_rows.specs.declared.patterns.Prefix.{Prefix}
 use Rattle.vw_rows.specs.declared.patterns.Map.{Map}
 use Rattle.vw_rows.specs.declared.patterns.Map.TheVariants.{One, Two, Three}
 use Rattle.vw_rows.specs.declared.patterns.Form.{Form}
 use Rattle.vw_rows.specs.declared.patterns.Form.TheVariants.{Any, Memory, Register}
-use Rattle.vw_rows.specs.declared.forms.Immediate.{Immediate}
-use Rattle.vw_rows.specs.declared.forms.Immediate.TheVariants as imm
 use Rattle.vw_rows.specs.declared.forms.Row.{Row}
 use Rattle.vw_rows.specs.Rows.{rows}
 use Rattle.vw_rows.specs.Lookup.{IsIn, key, matches, has_digit, has_form}
-use Rattle.vw_rows.specs.Layout.{has_modrm, immediate_length}
-use Rattle.vw_insn.specs.declared.registers.Width.{Width}
-use Rattle.vw_insn.specs.declared.registers.Width.TheVariants.{W8, W16, W32, W64}
+use Rattle.vw_rows.specs.Layout.{has_modrm}
 use Rattle.vw_rows.proofs.Matching.{tests-of, of-tests, same_map-≡}
 use Rattle.vw_rows.proofs.Uniqueness.{rows_all}
 
@@ -73,22 +69,6 @@ all_free : list_all is_free rows ≡ true
 unfolding rows
 all_free = refl
 
-or_left : (a b : Bool) → a ≡ true → (a || b) ≡ true
-or_left true b h = refl
-or_left false b h = absurd (false≢true h)
-
-or_right : (a b : Bool) → b ≡ true → (a || b) ≡ true
-or_right true b h = refl
-or_right false b h = h
-
-or_cases : (a b : Bool) → (a || b) ≡ true → (a ≡ true) ⊎ (b ≡ true)
-or_cases true b h = inl refl
-or_cases false b h = inr h
-
-not_false : (b : Bool) → not b ≡ true → b ≡ false
-not_false true h = absurd (false≢true h)
-not_false false h = refl
-
 false_where : (a b : Bool) → (a ≡ true → b ≡ true) → b ≡ false → a ≡ false
 false_where true b h e = absurd (false≢true (sym e ∙ h refl))
 false_where false b h e = refl
@@ -121,8 +101,8 @@ eight_of Three o h = absurd (false≢true h)
 
 free_opcode : (plus : Bool) (m : Map) (p o : ℕ) → cond plus (not (is_taken_eight m (p / 8))) (not (is_taken m p)) ≡ true → cond plus (o / 8 == p / 8) (o == p) ≡ true → is_taken m o ≡ false
 free_opcode true m p o free hit =
-    false_where (is_taken m o) (is_taken_eight m (p / 8)) (λ h. subst (λ (e : ℕ). is_taken_eight m e ≡ true) (eqb-true (o / 8) (p / 8) hit) (eight_of m o h)) (not_false (is_taken_eight m (p / 8)) free)
-free_opcode false m p o free hit = subst (λ (n : ℕ). is_taken m n ≡ false) (sym (eqb-true o p hit)) (not_false (is_taken m p) free)
+    false_where (is_taken m o) (is_taken_eight m (p / 8)) (λ h. subst (λ (e : ℕ). is_taken_eight m e ≡ true) (eqb-true (o / 8) (p / 8) hit) (eight_of m o h)) (not-true (is_taken_eight m (p / 8)) free)
+free_opcode false m p o free hit = subst (λ (n : ℕ). is_taken m n ≡ false) (sym (eqb-true o p hit)) (not-true (is_taken m p) free)
 
 -- so the opcode of a row begins as no other part does
 pub opcode_free : (r : Row) → IsIn r rows → (p : Prefix) (m : Map) (o d : ℕ) (f : Bool) → matches r (key p m o d f) ≡ true → is_taken m o ≡ false
@@ -130,58 +110,3 @@ opcode_free r i p m o d f h =
     let t = tests-of r (key p m o d f) h in
     let free = free_opcode r.pattern.plus r.pattern.map r.pattern.opcode o (rows_all is_free all_free r i) t.opcode in
     subst (λ (x : Map). is_taken x o ≡ false) (same_map-≡ r.pattern.map m t.map) free
-
--- ---- how long an instruction can be
-
-abbrev pub opcode_size : Map → ℕ
-opcode_size One = 1
-opcode_size Two = 2
-opcode_size Three = 3
-
-abbrev immediate_bound : Immediate → ℕ
-immediate_bound imm.None = 0
-immediate_bound imm.Ib = 1
-immediate_bound imm.Iz = 4
-immediate_bound imm.Ub = 1
-immediate_bound imm.Rel8 = 1
-immediate_bound imm.Rel32 = 4
-immediate_bound imm.By1 = 0
-immediate_bound imm.Cl = 0
-immediate_bound imm.Iv = 8
-immediate_bound imm.OpcodeByte = 1
-
-immediate_within : (i : Immediate) (w : Width) → leb (immediate_length i w) (immediate_bound i) ≡ true
-immediate_within imm.None w = refl
-immediate_within imm.Ib w = refl
-immediate_within imm.Iz W8 = refl
-immediate_within imm.Iz W16 = refl
-immediate_within imm.Iz W32 = refl
-immediate_within imm.Iz W64 = refl
-immediate_within imm.Ub w = refl
-immediate_within imm.Rel8 w = refl
-immediate_within imm.Rel32 w = refl
-immediate_within imm.By1 w = refl
-immediate_within imm.Cl w = refl
-immediate_within imm.Iv W8 = refl
-immediate_within imm.Iv W16 = refl
-immediate_within imm.Iv W32 = refl
-immediate_within imm.Iv W64 = refl
-immediate_within imm.OpcodeByte w = refl
-
--- ModRM, SIB and displacement
-abbrev pub modrm_size : Bool → ℕ
-modrm_size true = 6
-modrm_size false = 0
-
-abbrev is_short : Row → Bool
-is_short r = leb (opcode_size r.pattern.map + modrm_size (has_modrm r.operands) + immediate_bound r.immediate) 13
-
-all_short : list_all is_short rows ≡ true
-unfolding rows
-all_short = refl
-
-pub row_short : (r : Row) → IsIn r rows → (w : Width) → opcode_size r.pattern.map + modrm_size (has_modrm r.operands) + immediate_length r.immediate w ≤ 13
-row_short r i w =
-    let short : opcode_size r.pattern.map + modrm_size (has_modrm r.operands) + immediate_bound r.immediate ≤ 13 = leb-true _ _ (rows_all is_short all_short r i) in
-    let imm : immediate_length r.immediate w ≤ immediate_bound r.immediate = leb-true _ _ (immediate_within r.immediate w) in
-    omega arith

@@ -1,27 +1,25 @@
 -- What is read is a spelling, and a spelling is read, whatever follows it.
-use Rattle.std.proofs.Common.{◌≡◌, ℕ, ◌+◌, ◌-◌, ◌≤◌, ◌==◌, Bool, true, false, cond, List, [], ◌++◌, length, take, drop, Option, Some, None, refl, sym, ◌∙◌, ap, subst, append_assoc, arith, inl, inr}
-use Rattle.std.proofs.lemmas.Bool.{cases_lt}
-use Rattle.std.proofs.lemmas.List.{take_at, take-append-drop, length-append, length-take, length-drop, get_or-take, get_or_past}
+use Rattle.std.proofs.Common.{◌≡◌, ℕ, ◌+◌, ◌-◌, ◌≤◌, ◌==◌, Bool, true, false, List, [], ◌++◌, length, take, drop, Option, Some, None, refl, sym, ◌∙◌, ap, append_assoc, arith}
+use Rattle.std.proofs.lemmas.List.{take_at, take-append-drop, length-append, length-drop}
 use Rattle.vw_insn.specs.declared.registers.Width.{Width}
 use Rattle.vw_insn.specs.declared.instruction.Insn.{Insn}
 use Rattle.vw_rows.specs.declared.patterns.Prefix.{Prefix}
-use Rattle.vw_rows.specs.declared.patterns.Prefix.TheVariants.{Plain, P66, PF2, PF3}
 use Rattle.vw_rows.specs.declared.patterns.Map.{Map}
-use Rattle.vw_rows.specs.declared.patterns.Map.TheVariants.{One, Two, Three}
 use Rattle.vw_rows.specs.declared.patterns.Key.{Key}
 use Rattle.vw_rows.specs.declared.forms.Row.{Row}
 use Rattle.vw_rows.specs.Rows.{rows}
 use Rattle.vw_rows.specs.Lookup.{IsIn, key, matches}
 use Rattle.vw_rows.specs.Numbers.{IsBytes}
-use Rattle.vw_rows.specs.Parts.{Modrm, Parts, prefix_bytes, rex_bytes, opcode_bytes, sib_bytes, modrm_bytes, bytes_of, mode, reg}
-use Rattle.vw_rows.specs.Layout.{digit_of, is_register_form, key_of, has_modrm, IsModrm, without_base, immediate_length, IsLaid}
+use Rattle.vw_rows.specs.Parts.{Modrm, Parts, prefix_bytes, rex_bytes, opcode_bytes, modrm_bytes, bytes_of, mode, reg}
+use Rattle.vw_rows.specs.Layout.{digit_of, is_register_form, has_modrm, IsModrm, IsLaid}
 use Rattle.vw_rows.specs.Meaning.{insn_of}
 use Rattle.vw_rows.specs.Spelling.{Spells}
-use Rattle.vw_rows.proofs.Matching.{tests-of, same_map-≡}
+use Rattle.vw_rows.proofs.Bytes.{IsBytes-take}
+use Rattle.vw_rows.proofs.Lengths.{spelled_length}
 use Rattle.vw_rows.proofs.Uniqueness.{find_is, find_row}
 use Rattle.vw_decode.specs.Lexing.{◌>>=◌, next_of, row_at, Head, head_at, Found, tail_at, read}
 use Rattle.vw_decode.proofs.Binds.{bind_some, some, some_is}
-use Rattle.vw_decode.proofs.RowFacts.{found_with_any, opcode_free, opcode_size, modrm_size, row_short}
+use Rattle.vw_decode.proofs.RowFacts.{found_with_any, opcode_free}
 use Rattle.vw_decode.proofs.Heads.{head_takes, head_again}
 use Rattle.vw_decode.proofs.Tails.{Modded, parts_of, tail_takes, tail_again}
 
@@ -98,13 +96,6 @@ read_again p row w rest laid =
 
 -- ---- what the decoder answers
 
-IsBytes-take : (n : ℕ) (bytes : List ℕ) → IsBytes bytes → IsBytes (take n bytes)
-IsBytes-take n bytes h i =
-    elim (cases_lt i n) [
-      | inl lt ↦ rw (get_or-take n bytes i 0 lt) (h i)
-      | inr le ↦ rw (get_or_past (take n bytes) i 0 (omega (arith, length-take n bytes))) (omega arith)
-    ]
-
 pub rest_within : (bytes : List ℕ) (f : Found) → read bytes ≡ Some f → length f.rest ≤ length bytes
 rest_within bytes f e =
     let r = read_takes bytes f e in
@@ -180,63 +171,6 @@ pub same_answer : (i j : Insn) (m n : ℕ) → i ≡ j → m ≡ n → some {A =
 same_answer i j m n e d = rw (e, d) refl
 
 -- ---- how long it is
-
-prefix_length : (p : Prefix) → length (prefix_bytes p) ≤ 1
-prefix_length Plain = omega arith
-prefix_length P66 = omega arith
-prefix_length PF2 = omega arith
-prefix_length PF3 = omega arith
-
-rex_length : (r : Option ℕ) → length (rex_bytes r) ≤ 1
-rex_length None = omega arith
-rex_length (Some bits) = omega arith
-
-opcode_length : (m : Map) (o : ℕ) → length (opcode_bytes m o) ≡ opcode_size m
-opcode_length One o = refl
-opcode_length Two o = refl
-opcode_length Three o = refl
-
-opcode_not_empty : (m : Map) → 1 ≤ opcode_size m
-opcode_not_empty One = omega arith
-opcode_not_empty Two = omega arith
-opcode_not_empty Three = omega arith
-
-sib_length : (s : Option ℕ) → length (sib_bytes s) ≤ 1
-sib_length None = omega arith
-sib_length (Some b) = omega arith
-
-four_at_most : (a b c : Bool) → cond a 1 (cond b 4 (cond c 4 0)) ≤ 4
-four_at_most true b c = omega arith
-four_at_most false true c = omega arith
-four_at_most false false true = omega arith
-four_at_most false false false = omega arith
-
-modrm_length : (is : Bool) (m : Option Modrm) → IsModrm is m → length (modrm_bytes m) ≤ modrm_size is
-modrm_length false None laid = omega arith
-modrm_length false (Some m) laid = absurd laid
-modrm_length true None laid = absurd laid
-modrm_length true (Some m) laid =
-    let four = four_at_most (mode m.byte == 1) (mode m.byte == 2) (without_base m.byte m.sib) in
-    let disp : length m.disp ≤ 4 = rw laid.disp four in
-    let sib = sib_length m.sib in
-    omega (arith, length-append (sib_bytes m.sib) m.disp)
-
-pub spelled_length : (p : Parts) (row : Row) (w : Width) → IsLaid p row w → (1 ≤ length (bytes_of p)) × (length (bytes_of p) ≤ 15)
-spelled_length p row w laid =
-    let t = tests-of row (key_of p) laid.found in
-    let map : row.pattern.map ≡ p.map = same_map-≡ row.pattern.map p.map t.map in
-    let short : opcode_size p.map + modrm_size (has_modrm row.operands) + immediate_length row.immediate w ≤ 13 = subst (λ (m : Map). opcode_size m + modrm_size (has_modrm row.operands) + immediate_length row.immediate w ≤ 13) map (row_short row laid.listed w) in
-    let pl = prefix_length p.prefix in
-    let rl = rex_length p.rex in
-    let ol = opcode_length p.map p.opcode in
-    let on = opcode_not_empty p.map in
-    let ml = modrm_length (has_modrm row.operands) p.modrm laid.modrm in
-    let il = laid.imm in
-    let a = length-append (prefix_bytes p.prefix) (rex_bytes p.rex ++ (opcode_bytes p.map p.opcode ++ (modrm_bytes p.modrm ++ p.imm))) in
-    let b = length-append (rex_bytes p.rex) (opcode_bytes p.map p.opcode ++ (modrm_bytes p.modrm ++ p.imm)) in
-    let c = length-append (opcode_bytes p.map p.opcode) (modrm_bytes p.modrm ++ p.imm) in
-    let d = length-append (modrm_bytes p.modrm) p.imm in
-    (omega arith, omega arith)
 
 pub read_length : (bytes : List ℕ) (f : Found) → read bytes ≡ Some f → (1 ≤ length bytes - length f.rest) × (length bytes - length f.rest ≤ 15)
 read_length bytes f e =

@@ -3,7 +3,7 @@ use Rattle.std.proofs.Common.{◌≡◌, ℕ, zero, suc, ◌+◌, ◌<◌, ◌�
 use Rattle.std.proofs.lemmas.List.{length-append, length-take-le, take_more, take_all}
 use Rattle.vw_rows.specs.Numbers.{IsBytes}
 use Rattle.vw_encode.specs.declared.buffer.Spelled.{Spelled}
-use Rattle.vw_encode.specs.Buffer.{Holds, Pushed}
+use Rattle.vw_encode.specs.search.Buffer.{Holds, Pushed}
 
 pub grown : (bytes xs : List ℕ) (i : ℕ) (s : Spelled) → i < length bytes → Holds s ((xs ++ take i bytes) ++ get_or bytes i 0 ∷ []) → Holds s (xs ++ take (i + 1) bytes)
 grown bytes xs i s lt h =
@@ -16,9 +16,9 @@ no_room bytes xs i lt h = omega (arith, length-append xs (take i bytes), length-
 pub grown_all : (bytes xs : List ℕ) (i : ℕ) (s : Spelled) → length bytes ≤ i → Holds s (xs ++ take i bytes) → Holds s (xs ++ bytes)
 grown_all bytes xs i s le h = subst (λ (l : List ℕ). Holds s (xs ++ l)) (take_all i bytes le) h
 
-pub regrouped : (xs a b c : List ℕ) (r : Option Spelled) → Pushed ((xs ++ a) ++ b) c r → Pushed xs (a ++ (b ++ c)) r
-regrouped xs a b c (Some s) h = subst (λ (l : List ℕ). Holds s l) (simp append_assoc) h
-regrouped xs a b c None h =
+pub regroup : (xs a b c : List ℕ) (r : Option Spelled) → Pushed ((xs ++ a) ++ b) c r → Pushed xs (a ++ (b ++ c)) r
+regroup xs a b c (Some s) h = subst (λ (l : List ℕ). Holds s l) (simp append_assoc) h
+regroup xs a b c None h =
     let one = length-append (xs ++ a) b in
     let two = length-append xs a in
     let three = length-append a (b ++ c) in
@@ -26,9 +26,9 @@ regrouped xs a b c None h =
     omega arith
 
 -- all is put
-pub joined : (front more all : List ℕ) (r : Option Spelled) → front ++ more ≡ all → Pushed front more r → Pushed [] all r
-joined front more all (Some s) e h = subst (λ (l : List ℕ). Holds s l) e h
-joined front more all None e h = omega (arith, length-append front more, ap length e)
+pub pushed_onto_nothing : (front more all : List ℕ) (r : Option Spelled) → front ++ more ≡ all → Pushed front more r → Pushed [] all r
+pushed_onto_nothing front more all (Some s) e h = subst (λ (l : List ℕ). Holds s l) e h
+pushed_onto_nothing front more all None e h = omega (arith, length-append front more, ap length e)
 
 -- there is no room for what is put before the rest
 pub cut : (front more rest all : List ℕ) → (front ++ more) ++ rest ≡ all → 16 ≤ length front + length more → 16 ≤ 0 + length all

@@ -22,24 +22,22 @@ use Rattle.vw_rows.specs.declared.forms.Row.{Row}
 use Rattle.vw_rows.specs.declared.shape.Shape.{Shape}
 use Rattle.vw_rows.specs.Numbers.{IsBytes, signed_of, byte_of, unsigned_of}
 use Rattle.vw_rows.specs.Parts.{Modrm, Parts, mode, reg, rm, rex_r, rex_b}
-use Rattle.vw_rows.specs.Layout.{digit_of, is_register_form, key_of, has_modrm, displacement_length, immediate_length, has_fixed, IsAddress, IsModrm, IsLaid}
+use Rattle.vw_rows.specs.Layout.{is_word, digit_of, is_register_form, key_of, has_modrm, displacement_length, immediate_length, has_fixed, IsAddress, IsModrm, IsLaid}
 use Rattle.vw_rows.specs.Lookup.{has_digit, has_form}
 use Rattle.vw_rows.specs.Shape.{register_place, memory_at, rm_place, reg_number, xmm_operand, rm_width, first_place, second_place, xmm_register, xmm_second, signed_immediate, byte_immediate, shape_of}
 use Rattle.vw_rows.specs.Meaning.{is_given, built, insn_of}
 use Rattle.vw_rows.proofs.Matching.{tests-of, same_map-≡}
 use Rattle.vw_encode.specs.declared.asked.Asked.{Asked}
 use Rattle.vw_encode.specs.declared.candidate.Choice.{Choice}
-use Rattle.vw_encode.specs.Asked.{asked, place_number, xmm_number, place_memory, xmm_memory}
-use Rattle.vw_encode.specs.Candidate.{operand_number, operand_memory, digit_or_zero, reg_field, rm_field, modrm_byte, sib_field, opcode_byte, signed_block, immediate_block, displacement_of, modrm_candidate, optional_modrm, candidate}
-use Rattle.vw_encode.specs.Normal.{Normal, IsChosen, implies, asks_first, asks_second, tells_byte, is_mov, register_first, is_xchg, is_lea, is_extend, is_register, is_memory, is_word, full_first, is_eg, is_ge, is_opcode_reg, is_xmm_form, ends_in_fa, reads_signed, is_iv, is_ub, is_opcode_byte, is_free, has_free_reg, mode_of, scale_in, scale_of}
+use Rattle.vw_encode.specs.search.Asked.{operands_asked, place_number, xmm_number, place_memory, xmm_memory}
+use Rattle.vw_encode.specs.search.Candidate.{operand_number, operand_memory, digit_or_zero, reg_field, rm_field, modrm_byte, sib_field, opcode_byte, signed_block, immediate_block, displacement_of, modrm_candidate, optional_modrm, candidate}
+use Rattle.vw_encode.specs.Order.{mode_of, scale_in, scale_of}
+use Rattle.vw_encode.specs.search.Normal.{Normal, IsChosen, asks_first, asks_second, tells_byte, is_mov, register_first, is_xchg, is_lea, is_extend, is_register, is_memory, full_first, is_eg, is_ge, is_opcode_reg, is_xmm_form, ends_in_fa, reads_signed, is_iv, is_ub, is_opcode_byte, is_free, has_free_reg}
 use Rattle.vw_encode.proofs.Told.{is_reg, is_mem, told_first, told_second, told_signed, told_byte, told_mov, told_xmm}
 use Rattle.vw_encode.proofs.Digits.{unsigned_again}
-use Rattle.vw_encode.proofs.Facts.{ModrmBytes, OptionalBytes, PartBytes, part_bytes, is_w8, word_width, Tests, tests_of}
-use Rattle.vw_encode.proofs.Fields.{field_b, field_r, rm_memory, sib_memory, disp_again, disp_memory, no_sib_at, no_disp_at, empty_list}
-
-implied : (a b : Bool) → implies a b ≡ true → a ≡ true → b ≡ true
-implied true b h e = h
-implied false b h e = absurd (false≢true e)
+use Rattle.vw_rows.proofs.Bytes.{ModrmBytes, OptionalBytes, PartBytes, part_bytes}
+use Rattle.vw_encode.proofs.Facts.{follows, is_w8, word_width, Tests, tests_of}
+use Rattle.vw_encode.proofs.Fields.{IsWritten, field_b, field_r, rm_memory, sib_memory, disp_again, disp_memory, no_sib_at, no_disp_at, empty_list}
 
 -- ---- registers and memory where a kind has nothing else
 
@@ -111,32 +109,32 @@ signed_is_given imm.Rel8 h = refl
 signed_is_given imm.Rel32 h = refl
 signed_is_given _ h = absurd (false≢true h)
 
-byte_known : (row : Row) (w : Width) (p : Parts) (i : Immediate) → row.immediate ≡ i → i ≡ imm.Ub → tells_byte row.kind ≡ true → (asked (insn_of row w p)).byte ≡ byte_immediate imm.Ub p.imm
+byte_known : (row : Row) (w : Width) (p : Parts) (i : Immediate) → row.immediate ≡ i → i ≡ imm.Ub → tells_byte row.kind ≡ true → (operands_asked (insn_of row w p)).byte ≡ byte_immediate imm.Ub p.imm
 byte_known row w p i e d h =
     let is : row.immediate ≡ imm.Ub = e ∙ d in
     let s = shape_of row w p in
-    let one : (asked (built row.kind row.immediate s)).byte ≡ s.byte = rw is (told_byte row.kind (record { w = w; first = s.first; second = s.second; signed = signed_immediate imm.Ub p.imm; byte = byte_immediate imm.Ub p.imm; word = s.word; reg = s.reg; rm = s.rm }) h) in
+    let one : (operands_asked (built row.kind row.immediate s)).byte ≡ s.byte = rw is (told_byte row.kind (record { w = w; first = s.first; second = s.second; signed = signed_immediate imm.Ub p.imm; byte = byte_immediate imm.Ub p.imm; word = s.word; reg = s.reg; rm = s.rm }) h) in
     one ∙ rw is refl
 
-known : (row : Row) (w : Width) (p : Parts) → IsLaid p row w → Tests row → Known (asked (insn_of row w p)) row.operands row.kind row.immediate w p
+known : (row : Row) (w : Width) (p : Parts) → IsLaid p row w → Tests row → Known (operands_asked (insn_of row w p)) row.operands row.kind row.immediate w p
 known row w p laid t =
     let s = shape_of row w p in
     let found = tests-of row (key_of p) laid.found in
     let reg_first : register_first row.kind ≡ true → is_reg (first_place row.operands row.kind w p) ≡ true = λ r.
-    let both = and_parts (is_word row.width) (full_first row.operands row.pattern.form (is_extend row.kind)) (implied (register_first row.kind) _ t.full r) in
+    let both = and_parts (is_word row.width) (full_first row.operands row.pattern.form (is_extend row.kind)) (follows (register_first row.kind) _ t.full r) in
     first_reg row.operands row.kind row.pattern.form w p (word_width row p w laid both.0) found.form both.1 in
     let reg_second : is_xchg row.kind ≡ true → is_reg (second_place row.operands row.kind w p) ≡ true = λ r.
-    let both = and_parts (is_word row.width) (is_eg row.operands) (implied (is_xchg row.kind) _ t.register r) in
+    let both = and_parts (is_word row.width) (is_eg row.operands) (follows (is_xchg row.kind) _ t.register r) in
     second_reg row.operands row.kind w p (word_width row p w laid both.0) both.1 in
     let mem_second : is_lea row.kind ≡ true → is_mem (second_place row.operands row.kind w p) ≡ true = λ r.
-    let both = and_parts (is_memory row.pattern.form) (is_ge row.operands) (implied (is_lea row.kind) _ t.memory r) in
+    let both = and_parts (is_memory row.pattern.form) (is_ge row.operands) (follows (is_lea row.kind) _ t.memory r) in
     second_mem row.operands row.kind w p laid.modrm (memory_form row.pattern.form (is_register_form p.modrm) found.form both.0) both.1 in
     record {
-      first = λ h. told_first row.kind row.immediate s (implied (asks_first row.operands) _ t.first h) reg_first;
-      second = λ h. told_second row.kind row.immediate s (implied (asks_second row.operands) _ t.second h) reg_second mem_second;
-      xmm = λ h. told_xmm row.kind row.immediate s (implied (is_xmm_form row.operands) _ t.xmm h);
-      signed = λ h. told_signed row.kind row.immediate s (implied (reads_signed row.immediate) _ t.signed h) (signed_is_given row.immediate h);
-      byte = λ h. byte_known row w p row.immediate refl h (implied (is_ub row.immediate) _ t.byte (rw h refl));
+      first = λ h. told_first row.kind row.immediate s (follows (asks_first row.operands) _ t.first h) reg_first;
+      second = λ h. told_second row.kind row.immediate s (follows (asks_second row.operands) _ t.second h) reg_second mem_second;
+      xmm = λ h. told_xmm row.kind row.immediate s (follows (is_xmm_form row.operands) _ t.xmm h);
+      signed = λ h. told_signed row.kind row.immediate s (follows (reads_signed row.immediate) _ t.signed h) (signed_is_given row.immediate h);
+      byte = λ h. byte_known row w p row.immediate refl h (follows (is_ub row.immediate) _ t.byte (rw h refl));
     }
 
 -- ---- the opcode
@@ -251,7 +249,7 @@ MovAsked W16 a bs = a.signed ≡ signed_of bs
 MovAsked W32 a bs = a.signed ≡ signed_of bs
 MovAsked W64 a bs = a.word ≡ unsigned_of bs
 
-mov_at : (k : Kind) (i : Immediate) (s : Shape) (w : Width) (bs : List ℕ) → is_iv i ≡ true → is_mov k ≡ true → s.w ≡ w → s.signed ≡ signed_immediate i bs → s.word ≡ unsigned_of bs → MovAsked w (asked (built k i s)) bs
+mov_at : (k : Kind) (i : Immediate) (s : Shape) (w : Width) (bs : List ℕ) → is_iv i ≡ true → is_mov k ≡ true → s.w ≡ w → s.signed ≡ signed_immediate i bs → s.word ≡ unsigned_of bs → MovAsked w (operands_asked (built k i s)) bs
 mov_at k imm.Iv s W8 bs h m e f g = told_mov k imm.Iv s W8 e m ∙ f
 mov_at k imm.Iv s W16 bs h m e f g = told_mov k imm.Iv s W16 e m ∙ f
 mov_at k imm.Iv s W32 bs h m e f g = told_mov k imm.Iv s W32 e m ∙ f
@@ -268,16 +266,13 @@ byte_at_again b [] e h = absurd (omega arith)
 byte_at_again b (x ∷ []) e h = rw h refl
 byte_at_again b (x ∷ y ∷ bs) e h = absurd (omega arith)
 
-abbrev bounded : ℕ → Type 0
-bounded n = (n ≤ 2) ⊎ (n ≡ 4)
-
-one_byte : bounded 1
+one_byte : IsWritten 1
 one_byte = inl (omega arith)
 
-two_bytes : bounded 2
+two_bytes : IsWritten 2
 two_bytes = inl (omega arith)
 
-four_bytes : bounded 4
+four_bytes : IsWritten 4
 four_bytes = inr refl
 
 imm_again : (i : Immediate) (w : Width) (a : Asked) (bs : List ℕ) → length bs ≡ immediate_length i w → IsBytes bs → (reads_signed i ≡ true → a.signed ≡ signed_immediate i bs) → (i ≡ imm.Ub → a.byte ≡ byte_immediate imm.Ub bs) → (is_iv i ≡ true → MovAsked w a bs) → (is_opcode_byte i ≡ true → byte_of bs ≡ 0xFA) → take (immediate_length i w) (immediate_block i w a) ≡ bs
@@ -309,22 +304,22 @@ fixed_end _ p h e = absurd (false≢true h)
 same_parts : (p q : Parts) → p.prefix ≡ q.prefix → p.rex ≡ q.rex → p.map ≡ q.map → p.opcode ≡ q.opcode → p.modrm ≡ q.modrm → p.imm ≡ q.imm → p ≡ q
 same_parts p q a b c d e f = rw (a, b, c, d, e, f) refl
 
-candidate_here : (row : Row) (w : Width) (p : Parts) (c : Choice) → IsLaid p row w → Tests row → PartBytes p → (has_free_reg row ≡ true → digit_of p.modrm ≡ 0) → IsChosen p c → candidate row w c (asked (insn_of row w p)) ≡ p
+candidate_here : (row : Row) (w : Width) (p : Parts) (c : Choice) → IsLaid p row w → Tests row → PartBytes p → (has_free_reg row ≡ true → digit_of p.modrm ≡ 0) → IsChosen p c → candidate row w c (operands_asked (insn_of row w p)) ≡ p
 candidate_here row w p c laid t bytes free at =
-    let a = asked (insn_of row w p) in
+    let a = operands_asked (insn_of row w p) in
     let s = shape_of row w p in
     let kn = known row w p laid t in
     let found = tests-of row (key_of p) laid.found in
     let opcode : opcode_byte row.pattern a ≡ p.opcode = opcode_again row.pattern.plus row.pattern.opcode p.opcode (place_number a.first % 8) found.opcode (λ plus.
-    let is : is_opcode_reg row.operands ≡ true = implied row.pattern.plus _ t.plus plus in
+    let is : is_opcode_reg row.operands ≡ true = follows row.pattern.plus _ t.plus plus in
     plus_first row.operands row.kind w p a.first is (kn.first (asks_opcode row.operands is))) in
-    let modrm = modrm_whole row w p a c (has_modrm row.operands) p.modrm refl refl laid.modrm bytes.modrm at.mode at.scale kn laid t free in
-    let imm = imm_again row.immediate w a p.imm laid.imm bytes.imm kn.signed kn.byte (λ iv. mov_at row.kind row.immediate s w p.imm iv (implied (is_iv row.immediate) _ t.mov iv) refl refl refl) (λ h. fixed_end row.operands p (implied (is_opcode_byte row.immediate) _ t.end h) laid.fixed) in
+    let modrm = modrm_whole row w p a c (has_modrm row.operands) p.modrm refl refl laid.modrm bytes.fields at.mode at.scale kn laid t free in
+    let imm = imm_again row.immediate w a p.imm laid.imm bytes.imm kn.signed kn.byte (λ iv. mov_at row.kind row.immediate s w p.imm iv (follows (is_iv row.immediate) _ t.mov iv) refl refl refl) (λ h. fixed_end row.operands p (follows (is_opcode_byte row.immediate) _ t.end h) laid.fixed) in
     same_parts (candidate row w c a) p (sym at.prefix) (sym at.rex) (same_map-≡ row.pattern.map p.map found.map) opcode modrm imm
 
-pub candidate_again : (p : Parts) (row : Row) (insn : Insn) (n : Normal p row insn) (c : Choice) → IsChosen p c → candidate row n.width c (asked insn) ≡ p
+pub candidate_again : (p : Parts) (row : Row) (insn : Insn) (n : Normal p row insn) (c : Choice) → IsChosen p c → candidate row n.width c (operands_asked insn) ≡ p
 candidate_again p row insn n c at =
-    subst (λ (x : Insn). candidate row n.width c (asked x) ≡ p) n.meant (candidate_here row n.width p c n.laid (tests_of row n.told) (part_bytes p n.are_bytes) n.free at)
+    subst (λ (x : Insn). candidate row n.width c (operands_asked x) ≡ p) n.meant (candidate_here row n.width p c n.laid (tests_of row n.told) (part_bytes p n.are_bytes) n.free at)
 
 abbrev pub parts_are : Prefix → Option ℕ → Map → ℕ → Option Modrm → List ℕ → Parts
 parts_are prefix rex map opcode modrm imm = record { prefix = prefix; rex = rex; map = map; opcode = opcode; modrm = modrm; imm = imm }

@@ -1,7 +1,7 @@
 -- Each spelling of an instruction has a normal one beside it, so nothing is spelled where the search finds none.
 use Rattle.std.proofs.Common.{◌≡◌, ◌⊎◌, ℕ, zero, suc, ◌+◌, ◌*◌, ◌<◌, ◌≤◌, ◌==◌, Bool, true, false, ◌&&◌, ◌||◌, cond, ltb, List, [], ◌∷◌, ◌++◌, length, take, get_or, find, Option, None, Some, ℤ, refl, sym, ◌∙◌, ap, subst, eq-eqb, arith, inl, inr}
-use Rattle.std.proofs.lemmas.Bool.{and_parts, cases_Bool, cases_lt, ltb-true, false≢true}
-use Rattle.std.proofs.lemmas.List.{length-take, get_or-take, get_or_past}
+use Rattle.std.proofs.lemmas.Bool.{and_parts, or_cases, cases_Bool, cases_lt, ltb-true, false≢true}
+use Rattle.std.proofs.lemmas.List.{length-take}
 use Rattle.std.specs.List.{list_all}
 use Rattle.vw_insn.specs.declared.registers.Width.{Width}
 use Rattle.vw_insn.specs.declared.registers.Width.TheVariants.{W8, W16, W32, W64}
@@ -23,7 +23,7 @@ use Rattle.vw_rows.specs.declared.shape.Shape.{Shape}
 use Rattle.vw_rows.specs.Rows.{row, rows}
 use Rattle.vw_rows.specs.Lookup.{IsIn, key, matches, has_digit}
 use Rattle.vw_rows.specs.Numbers.{IsBytes}
-use Rattle.vw_rows.specs.Parts.{Modrm, Parts, prefix_bytes, rex_bytes, opcode_bytes, sib_bytes, modrm_bytes, bytes_of, mode, rm}
+use Rattle.vw_rows.specs.Parts.{Modrm, Parts, rex_bytes, sib_bytes, modrm_bytes, bytes_of, mode, rm}
 use Rattle.vw_rows.specs.Layout.{digit_of, is_register_form, key_of, has_modrm, takes_sib, without_base, displacement_length, has_fixed, IsModrm, IsRex, IsLaid}
 use Rattle.vw_rows.specs.Shape.{first_place, second_place, xmm_register, xmm_second, base_at, memory_at, rm_place, rm_width, shape_of}
 use Rattle.vw_rows.specs.Meaning.{built, mov_immediate, insn_of}
@@ -32,12 +32,13 @@ use Rattle.vw_rows.specs.Spelling.{Spells}
 use Rattle.vw_rows.proofs.Matching.{tests-of, of-tests}
 use Rattle.vw_rows.proofs.Uniqueness.{rows_all, find_is}
 use Rattle.vw_encode.specs.declared.buffer.Spelled.{Spelled}
-use Rattle.vw_encode.proofs.Lengths.{spelled_length}
-use Rattle.vw_encode.specs.Order.{prefix_rank, rank_of, mode_rank, Then, PartsBefore, IsBefore, IsFirst}
-use Rattle.vw_encode.proofs.ReadBits.{lean_rex, lean_parts, lean_laid, lean_means, lean_tested, lean_order}
-use Rattle.vw_encode.specs.Found.{FoundIn, is_candidate}
-use Rattle.vw_encode.specs.Kinds.{kind_number, insn_number}
-use Rattle.vw_encode.specs.Normal.{Normal, Without, is_lean, mode_of, scale_of, is_told, is_free, has_free_reg}
+use Rattle.vw_rows.proofs.Bytes.{no_bytes, one_more_byte, IsBytes-take, part_bytes, bytes_of_parts}
+use Rattle.vw_rows.proofs.Lengths.{spelled_length}
+use Rattle.vw_encode.specs.Order.{mode_of, scale_of, prefix_rank, rank_of, mode_rank, Then, PartsBefore, IsBefore, IsFirst}
+use Rattle.vw_encode.proofs.ReadBits.{with_rex, lean_rex, lean_parts, lean_laid, lean_means, lean_tested, lean_order}
+use Rattle.vw_encode.specs.search.Found.{FoundIn, is_candidate}
+use Rattle.vw_encode.specs.search.Kinds.{kind_number, insn_number}
+use Rattle.vw_encode.specs.search.Normal.{Normal, Without, is_lean, is_told, is_free, has_free_reg}
 
 -- ---- the rows that tell all
 
@@ -52,10 +53,6 @@ is_long_nop r = is_nop r.kind && has_modrm r.operands
 all_told : list_all (λ r. is_long_nop r || is_told r) rows ≡ true
 unfolding rows
 all_told = refl
-
-or_cases : (a b : Bool) → (a || b) ≡ true → (a ≡ true) ⊎ (b ≡ true)
-or_cases true b h = inl refl
-or_cases false b h = inr h
 
 told_or_nop : (r : Row) → IsIn r rows → (is_long_nop r ≡ true) ⊎ (is_told r ≡ true)
 told_or_nop r listed = or_cases (is_long_nop r) (is_told r) (rows_all (λ x. is_long_nop x || is_told x) all_told r listed)
@@ -112,15 +109,12 @@ nop_built _ i s h = absurd (false≢true h)
 abbrev zero_reg : Modrm → Modrm
 zero_reg m = record { byte = mode m.byte * 64 + rm m.byte; sib = m.sib; disp = m.disp }
 
-abbrev zeroed : Option Modrm → Option Modrm
-zeroed None = None
-zeroed (Some m) = Some (zero_reg m)
-
-abbrev with_rex : Parts → Option ℕ → Parts
-with_rex p rex = record { prefix = p.prefix; rex = rex; map = p.map; opcode = p.opcode; modrm = p.modrm; imm = p.imm }
+abbrev with_zero_reg : Option Modrm → Option Modrm
+with_zero_reg None = None
+with_zero_reg (Some m) = Some (zero_reg m)
 
 abbrev zeroed_parts : Parts → Parts
-zeroed_parts p = record { prefix = p.prefix; rex = p.rex; map = p.map; opcode = p.opcode; modrm = zeroed p.modrm; imm = p.imm }
+zeroed_parts p = record { prefix = p.prefix; rex = p.rex; map = p.map; opcode = p.opcode; modrm = with_zero_reg p.modrm; imm = p.imm }
 
 same_mode : (b : ℕ) → mode (mode b * 64 + rm b) ≡ mode b
 same_mode b = omega arith
@@ -128,11 +122,11 @@ same_mode b = omega arith
 same_rm : (b : ℕ) → rm (mode b * 64 + rm b) ≡ rm b
 same_rm b = omega arith
 
-zero_digit : (o : Option Modrm) → digit_of (zeroed o) ≡ 0
+zero_digit : (o : Option Modrm) → digit_of (with_zero_reg o) ≡ 0
 zero_digit None = refl
 zero_digit (Some m) = omega arith
 
-same_form : (o : Option Modrm) → is_register_form (zeroed o) ≡ is_register_form o
+same_form : (o : Option Modrm) → is_register_form (with_zero_reg o) ≡ is_register_form o
 same_form None = refl
 same_form (Some m) = ap (λ (n : ℕ). n == 3) (same_mode m.byte)
 
@@ -146,7 +140,7 @@ same_without b (Some s) = rw (same_mode b) refl
 same_length : (b : ℕ) (s : Option ℕ) → displacement_length (mode b * 64 + rm b) s ≡ displacement_length b s
 same_length b s = rw (same_mode b, same_without b s) refl
 
-same_layout : (is : Bool) (o : Option Modrm) → IsModrm is o → IsModrm is (zeroed o)
+same_layout : (is : Bool) (o : Option Modrm) → IsModrm is o → IsModrm is (with_zero_reg o)
 same_layout false None laid = tt
 same_layout false (Some m) laid = absurd laid
 same_layout true None laid = absurd laid
@@ -159,7 +153,7 @@ same_base rex b (Some s) = rw (same_without b (Some s)) refl
 same_memory : (rex : Option ℕ) (m : Modrm) → memory_at rex (zero_reg m) ≡ memory_at rex m
 same_memory rex m = rw (same_base rex m.byte m.sib) refl
 
-same_place : (w : Width) (rex : Option ℕ) (o : Option Modrm) → rm_place w rex (zeroed o) ≡ rm_place w rex o
+same_place : (w : Width) (rex : Option ℕ) (o : Option Modrm) → rm_place w rex (with_zero_reg o) ≡ rm_place w rex o
 same_place w rex None = refl
 same_place w rex (Some m) = rw (same_memory rex m, same_mode m.byte, same_rm m.byte) refl
 
@@ -185,7 +179,7 @@ zeroed_laid p r w laid free =
     let t = tests-of r (key_of p) laid.found in
     record {
       listed = laid.listed;
-      found = of-tests r (key_of (zeroed_parts p)) (record { prefix = t.prefix; map = t.map; opcode = t.opcode; digit = any_digit r.pattern.digit (digit_of (zeroed p.modrm)) s.none; form = rw (same_form p.modrm) t.form });
+      found = of-tests r (key_of (zeroed_parts p)) (record { prefix = t.prefix; map = t.map; opcode = t.opcode; digit = any_digit r.pattern.digit (digit_of (with_zero_reg p.modrm)) s.none; form = rw (same_form p.modrm) t.form });
       rex = laid.rex;
       width = laid.width;
       modrm = same_layout (has_modrm r.operands) p.modrm laid.modrm;
@@ -198,38 +192,14 @@ zeroed_means p r w free =
     let s = same_named r.operands r.pattern.digit r.kind w p free in
     rw (s.first, s.second, s.register, s.operand) refl
 
-right_bytes : (front rest : List ℕ) → IsBytes (front ++ rest) → IsBytes rest
-right_bytes [] rest h = h
-right_bytes (b ∷ bs) rest h = right_bytes bs rest (λ i. h (suc i))
-
-left_bytes : (front rest : List ℕ) → IsBytes (front ++ rest) → IsBytes front
-left_bytes [] rest h i = omega arith
-left_bytes (b ∷ bs) rest h zero = h 0
-left_bytes (b ∷ bs) rest h (suc i) = left_bytes bs rest (λ j. h (suc j)) i
-
-one_more_byte : (b : ℕ) (bytes : List ℕ) → b < 256 → IsBytes bytes → IsBytes (b ∷ bytes)
-one_more_byte b bytes lt h zero = lt
-one_more_byte b bytes lt h (suc i) = h i
-
-both_bytes : (front rest : List ℕ) → IsBytes front → IsBytes rest → IsBytes (front ++ rest)
-both_bytes [] rest h g = g
-both_bytes (b ∷ bs) rest h g = one_more_byte b (bs ++ rest) (h 0) (both_bytes bs rest (λ j. h (suc j)) g)
-
-zeroed_modrm_bytes : (o : Option Modrm) → IsBytes (modrm_bytes o) → IsBytes (modrm_bytes (zeroed o))
+zeroed_modrm_bytes : (o : Option Modrm) → IsBytes (modrm_bytes o) → IsBytes (modrm_bytes (with_zero_reg o))
 zeroed_modrm_bytes None h = h
 zeroed_modrm_bytes (Some m) h = (let b : m.byte < 256 = h 0 in one_more_byte (mode m.byte * 64 + rm m.byte) (sib_bytes m.sib ++ m.disp) (omega arith) (λ i. h (suc i)))
 
 zeroed_bytes : (p : Parts) → IsBytes (bytes_of p) → IsBytes (bytes_of (zeroed_parts p))
 zeroed_bytes p h =
-    let after_rex = opcode_bytes p.map p.opcode ++ (modrm_bytes p.modrm ++ p.imm) in
-    let a = right_bytes (prefix_bytes p.prefix) (rex_bytes p.rex ++ after_rex) h in
-    let b = right_bytes (rex_bytes p.rex) after_rex a in
-    let c = right_bytes (opcode_bytes p.map p.opcode) (modrm_bytes p.modrm ++ p.imm) b in
-    let modrm = zeroed_modrm_bytes p.modrm (left_bytes (modrm_bytes p.modrm) p.imm c) in
-    let tail = both_bytes (modrm_bytes (zeroed p.modrm)) p.imm modrm (right_bytes (modrm_bytes p.modrm) p.imm c) in
-    let opcode = both_bytes (opcode_bytes p.map p.opcode) (modrm_bytes (zeroed p.modrm) ++ p.imm) (left_bytes (opcode_bytes p.map p.opcode) (modrm_bytes p.modrm ++ p.imm) b) tail in
-    let rex = both_bytes (rex_bytes p.rex) (opcode_bytes p.map p.opcode ++ (modrm_bytes (zeroed p.modrm) ++ p.imm)) (left_bytes (rex_bytes p.rex) after_rex a) opcode in
-    both_bytes (prefix_bytes p.prefix) (rex_bytes p.rex ++ (opcode_bytes p.map p.opcode ++ (modrm_bytes (zeroed p.modrm) ++ p.imm))) (left_bytes (prefix_bytes p.prefix) (rex_bytes p.rex ++ after_rex) h) rex
+    let known = part_bytes p h in
+    bytes_of_parts (zeroed_parts p) known.prefix known.rex known.opcode (zeroed_modrm_bytes p.modrm known.modrm) known.imm
 
 -- ---- the whole
 
@@ -264,30 +234,25 @@ record Said (p : Parts) (r : Row) (w : Width) (i : Insn) : Type 0 where
 said : (bytes : List ℕ) (i : Insn) (t : Spells bytes i) → Said t.parts t.row t.width i
 said bytes i t = record { laid = t.laid; meant = t.meant; are_bytes = subst (λ (l : List ℕ). IsBytes l) t.spelled t.are_bytes }
 
-no_bytes : IsBytes []
-no_bytes i = omega arith
-
 rex_is_byte : (l : Option ℕ) → IsRex l → IsBytes (rex_bytes l)
 rex_is_byte None h = no_bytes
 rex_is_byte (Some n) h = one_more_byte (0x40 + n) [] (omega arith) no_bytes
 
-lean_bytes : (p : Parts) (l : Option ℕ) → IsRex l → IsBytes (bytes_of p) → IsBytes (prefix_bytes p.prefix ++ (rex_bytes l ++ (opcode_bytes p.map p.opcode ++ (modrm_bytes p.modrm ++ p.imm))))
+lean_bytes : (p : Parts) (l : Option ℕ) → IsRex l → IsBytes (bytes_of p) → IsBytes (bytes_of (with_rex p l))
 lean_bytes p l rex h =
-    let after_rex = opcode_bytes p.map p.opcode ++ (modrm_bytes p.modrm ++ p.imm) in
-    let a = right_bytes (prefix_bytes p.prefix) (rex_bytes p.rex ++ after_rex) h in
-    let b = right_bytes (rex_bytes p.rex) after_rex a in
-    both_bytes (prefix_bytes p.prefix) (rex_bytes l ++ after_rex) (left_bytes (prefix_bytes p.prefix) (rex_bytes p.rex ++ after_rex) h) (both_bytes (rex_bytes l) after_rex (rex_is_byte l rex) b)
+    let known = part_bytes p h in
+    bytes_of_parts (with_rex p l) known.prefix (rex_is_byte l rex) known.opcode known.modrm known.imm
 
 lean_said : (p : Parts) (r : Row) (w : Width) (i : Insn) → Said p r w i → Said (lean_parts r p) r w i
 lean_said p r w i s =
     let laid = lean_laid p r w s.laid in
     record { laid = laid; meant = lean_means p r w s.laid ∙ s.meant; are_bytes = lean_bytes p (lean_rex r p.rex) laid.rex s.are_bytes }
 
-same_scale : (o : Option Modrm) → scale_of (zeroed o) ≡ scale_of o
+same_scale : (o : Option Modrm) → scale_of (with_zero_reg o) ≡ scale_of o
 same_scale None = refl
 same_scale (Some m) = refl
 
-same_mode_of : (o : Option Modrm) → mode_of (zeroed o) ≡ mode_of o
+same_mode_of : (o : Option Modrm) → mode_of (with_zero_reg o) ≡ mode_of o
 same_mode_of None = refl
 same_mode_of (Some m) = same_mode m.byte
 
@@ -384,13 +349,6 @@ none_spelled i none bytes t = elim (told_or_nop t.row t.laid.listed) [
 ]
 
 -- ---- the first
-
-pub IsBytes-take : (n : ℕ) (bytes : List ℕ) → IsBytes bytes → IsBytes (take n bytes)
-IsBytes-take n bytes h i =
-    elim (cases_lt i n) [
-      | inl lt ↦ rw (get_or-take n bytes i 0 lt) (h i)
-      | inr le ↦ rw (get_or_past (take n bytes) i 0 (omega (arith, length-take n bytes))) (omega arith)
-    ]
 
 abbrev pub found_spells : (s : Spelled) (i : Insn) → FoundIn s i → Spells (take s.len s.bytes) i
 found_spells s i g = record {

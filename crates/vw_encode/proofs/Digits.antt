@@ -1,22 +1,11 @@
 -- Numbers that are written as they were read.
-use Rattle.std.proofs.Common.{◌≡◌, ℕ, zero, suc, ◌+◌, ◌*◌, ◌/◌, ◌%◌, ◌^◌, ◌<◌, ◌≤◌, ◌==◌, Bool, true, ◌&&◌, List, [], ◌∷◌, length, take, refl, ◌∙◌, ap, subst, arith, inl, inr}
-use Rattle.std.proofs.lemmas.Bool.{and_parts, cases_lt, eqb-true}
+use Rattle.std.proofs.Common.{◌≡◌, ℕ, zero, suc, ◌+◌, ◌*◌, ◌/◌, ◌%◌, ◌^◌, ◌<◌, ◌≤◌, ◌==◌, true, List, [], ◌∷◌, length, take, refl, ◌∙◌, ap, arith}
+use Rattle.std.proofs.lemmas.Bool.{eqb-true}
 use Rattle.std.proofs.lemmas.Int.{ints, of_z-to_z}
 use Rattle.std.proofs.lemmas.Nat.{le_bytes_4, le_bytes_8}
 use Rattle.std.specs.Int.{w8, w16, w32, w64, cast_signed, cast_unsigned, to_le_bytes}
 use Rattle.vw_rows.specs.Numbers.{IsBytes, signed_of, unsigned_of}
-
--- a test of the numbers below n
-abbrev pub below : (ℕ → Bool) → ℕ → Bool
-below f zero = true
-below f (suc n) = f n && below f n
-
-pub below_at : (f : ℕ → Bool) (n : ℕ) → below f n ≡ true → (i : ℕ) → i < n → f i ≡ true
-below_at f zero h i lt = absurd (omega arith)
-below_at f (suc n) h i lt = elim (cases_lt i n) [
-  | inl under ↦ below_at f n (and_parts (f n) (below f n) h).1 i under
-  | inr over ↦ (let e : n ≡ i = omega arith in subst (λ (k : ℕ). f k ≡ true) e (and_parts (f n) (below f n) h).0)
-]
+use Rattle.vw_rows.proofs.Below.{below, below_at}
 
 bytes_again : below (λ a. cast_unsigned w32 (cast_signed w8 a) % 256 == a) 256 ≡ true
 bytes_again = refl

@@ -9,10 +9,12 @@ use Rattle.vw_rows.specs.Parts.{Modrm, Parts, mode, rm, rex_w}
 use Rattle.vw_rows.specs.Layout.{width_at, has_modrm, takes_sib, has_sib, IsModrm, IsLaid}
 use Rattle.vw_rows.specs.Meaning.{built, insn_of}
 use Rattle.vw_encode.specs.declared.candidate.Choice.{Choice}
-use Rattle.vw_encode.specs.Asked.{asked}
-use Rattle.vw_encode.specs.Normal.{Normal, IsChosen, Without, is_lean, mode_of, scale_in, scale_of, shape_asked}
-use Rattle.vw_encode.proofs.Facts.{OptionalBytes, part_bytes, mode_below, scale_below}
-use Rattle.vw_encode.specs.Candidate.{candidate}
+use Rattle.vw_encode.specs.search.Asked.{operands_asked}
+use Rattle.vw_encode.specs.Order.{mode_of, scale_in, scale_of}
+use Rattle.vw_encode.specs.search.Normal.{Normal, IsChosen, Without, is_lean, shape_asked}
+use Rattle.vw_rows.proofs.Bytes.{OptionalBytes, part_bytes}
+use Rattle.vw_encode.proofs.Facts.{mode_below, scale_below}
+use Rattle.vw_encode.specs.search.Candidate.{candidate}
 use Rattle.vw_encode.proofs.Told.{may_be}
 use Rattle.vw_encode.proofs.Candidates.{candidate_again}
 
@@ -27,10 +29,10 @@ same_width p row insn prefix rex w n e d h =
     let here : width_at row.width prefix (rex_w rex) ≡ Some n.width = subst (λ (x : Prefix). width_at row.width x (rex_w rex) ≡ Some n.width) e (subst (λ (x : Option ℕ). width_at row.width p.prefix (rex_w x) ≡ Some n.width) d n.laid.width) in
     some_is n.width w (sym here ∙ h)
 
-pub not_built : (row : Row) (insn : Insn) (prefix : Prefix) (rex : Option ℕ) (w : Width) → width_at row.width prefix (rex_w rex) ≡ Some w → (built row.kind row.immediate (shape_asked w (asked insn)) ≡ insn → ⊥) → Without row insn (λ p. (p.prefix ≡ prefix) × (p.rex ≡ rex))
+pub not_built : (row : Row) (insn : Insn) (prefix : Prefix) (rex : Option ℕ) (w : Width) → width_at row.width prefix (rex_w rex) ≡ Some w → (built row.kind row.immediate (shape_asked w (operands_asked insn)) ≡ insn → ⊥) → Without row insn (λ p. (p.prefix ≡ prefix) × (p.rex ≡ rex))
 not_built row insn prefix rex w h miss p n at =
     let e = same_width p row insn prefix rex w n at.0 at.1 h in
-    miss (subst (λ (v : Width). built row.kind row.immediate (shape_asked v (asked insn)) ≡ insn) e (may_be row n.width p insn n.meant))
+    miss (subst (λ (v : Width). built row.kind row.immediate (shape_asked v (operands_asked insn)) ≡ insn) e (may_be row n.width p insn n.meant))
 
 no_less : (o : Option ℕ) → IfSome o (λ s. s < 0) → o ≡ None
 no_less None h = refl
@@ -72,7 +74,7 @@ with_sib_at true (Some m) n laid h e = sib_in_memory m.byte h.byte (sym laid.sib
     has_some (Some b) e = refl
 
 pub with_sib : (p : Parts) (row : Row) (insn : Insn) (scale : ℕ) → Normal p row insn → scale_of p.modrm ≡ Some scale → mode_of p.modrm < 3
-with_sib p row insn scale n e = with_sib_at (has_modrm row.operands) p.modrm scale n.laid.modrm (part_bytes p n.are_bytes).modrm e
+with_sib p row insn scale n e = with_sib_at (has_modrm row.operands) p.modrm scale n.laid.modrm (part_bytes p n.are_bytes).fields e
 
 -- one scale more
 pub one_scale : (row : Row) (insn : Insn) (prefix : Prefix) (rex : Option ℕ) (scale : ℕ) → Without row insn (λ p. (p.prefix ≡ prefix) × (p.rex ≡ rex) × (scale_of p.modrm ≡ Some scale) × (mode_of p.modrm < 3))
@@ -115,8 +117,8 @@ all_rex row insn prefix bits le before p n at = before p n (at, within p.rex bit
     within (Some s) n le h = omega arith
 
 -- a candidate that is not spelled
-pub attempted : (made : Parts) (row : Row) (w : Width) (insn : Insn) (c : Choice) → width_at row.width c.prefix (rex_w c.rex) ≡ Some w → made ≡ candidate row w c (asked insn) → (IsLaid made row w → insn_of row w made ≡ insn → ⊥) → Without row insn (λ p. IsChosen p c)
-attempted made row w insn c width is miss p n at =
+pub attempt_fails : (made : Parts) (row : Row) (w : Width) (insn : Insn) (c : Choice) → width_at row.width c.prefix (rex_w c.rex) ≡ Some w → made ≡ candidate row w c (operands_asked insn) → (IsLaid made row w → insn_of row w made ≡ insn → ⊥) → Without row insn (λ p. IsChosen p c)
+attempt_fails made row w insn c width is miss p n at =
     let e : n.width ≡ w = same_width p row insn c.prefix c.rex w n at.prefix at.rex width in
-    let same : p ≡ made = sym (subst (λ (v : Width). candidate row v c (asked insn) ≡ p) e (candidate_again p row insn n c at)) ∙ sym is in
+    let same : p ≡ made = sym (subst (λ (v : Width). candidate row v c (operands_asked insn) ≡ p) e (candidate_again p row insn n c at)) ∙ sym is in
     miss (subst (λ (q : Parts). IsLaid q row w) same (subst (λ (v : Width). IsLaid p row v) e n.laid)) (subst (λ (q : Parts). insn_of row w q ≡ insn) same (subst (λ (v : Width). insn_of row v p ≡ insn) e n.meant))

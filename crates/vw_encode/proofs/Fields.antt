@@ -4,34 +4,19 @@ use Rattle.std.proofs.lemmas.Bool.{and_parts, cases_Bool, eqb-true, false≢true
 use Rattle.std.specs.Int.{w32, cast_unsigned, to_le_bytes}
 use Rattle.vw_insn.specs.declared.registers.Width.{Width}
 use Rattle.vw_insn.specs.declared.registers.Width.TheVariants.{W8, W16, W32, W64}
-use Rattle.vw_insn.specs.Words.{number}
+use Rattle.vw_insn.specs.Words.{number, register}
+use Rattle.vw_insn.proofs.RegisterNumbers.{number_register}
 use Rattle.vw_rows.specs.Numbers.{IsBytes, signed_of}
-use Rattle.vw_rows.specs.Parts.{Modrm, mode, reg, rm, scale, index, rex_r, rex_x, rex_b}
+use Rattle.vw_rows.specs.Parts.{mode, rm, scale, index, rex_r, rex_x, rex_b}
 use Rattle.vw_rows.specs.Parts as parts
 use Rattle.vw_rows.specs.Layout.{takes_sib, without_base, displacement_length, has_sib}
-use Rattle.vw_rows.specs.Shape.{register, byte_register, register_place, base_at, index_at, memory_at}
-use Rattle.vw_encode.specs.Asked.{place_number}
-use Rattle.vw_encode.specs.Candidate.{base_field, index_field, rm_in_memory, sib_field}
-use Rattle.vw_encode.specs.Normal.{scale_in}
-use Rattle.vw_encode.proofs.Digits.{below, below_at, signed_again, signed_again_4}
-
-bit_b : (rex : Option ℕ) → rex_b rex ≤ 1
-bit_b None = omega arith
-bit_b (Some b) = omega arith
-
-bit_x : (rex : Option ℕ) → rex_x rex ≤ 1
-bit_x None = omega arith
-bit_x (Some b) = omega arith
-
-pub bit_r : (rex : Option ℕ) → rex_r rex ≤ 1
-bit_r None = omega arith
-bit_r (Some b) = omega arith
-
-numbers_again : below (λ n. number (register n) == n) 16 ≡ true
-numbers_again = refl
-
-number_again : (n : ℕ) → n < 16 → number (register n) ≡ n
-number_again n lt = eqb-true (number (register n)) n (below_at (λ k. number (register k) == k) 16 numbers_again n lt)
+use Rattle.vw_rows.specs.Shape.{byte_register, register_place, base_at, index_at, memory_at}
+use Rattle.vw_encode.specs.search.Asked.{place_number}
+use Rattle.vw_encode.specs.search.Candidate.{base_field, index_field, rm_in_memory, sib_field}
+use Rattle.vw_encode.specs.Order.{scale_in}
+use Rattle.vw_rows.proofs.Below.{below, below_at}
+use Rattle.vw_rows.proofs.SpelledListed.{bit_b, bit_x}
+use Rattle.vw_encode.proofs.Digits.{signed_again, signed_again_4}
 
 low_again : below (λ n. place_number (byte_register false n) == n) 8 ≡ true
 low_again = refl
@@ -41,15 +26,15 @@ byte_again n lt = eqb-true (place_number (byte_register false n)) n (below_at (�
 
 place_low : (w : Width) (n : ℕ) → n < 8 → place_number (register_place w None n) ≡ n
 place_low W8 n lt = byte_again n lt
-place_low W16 n lt = number_again n (omega arith)
-place_low W32 n lt = number_again n (omega arith)
-place_low W64 n lt = number_again n (omega arith)
+place_low W16 n lt = number_register n (omega arith)
+place_low W32 n lt = number_register n (omega arith)
+place_low W64 n lt = number_register n (omega arith)
 
 place_full : (w : Width) (bits n : ℕ) → n < 16 → place_number (register_place w (Some bits) n) ≡ n
-place_full W8 bits n lt = number_again n lt
-place_full W16 bits n lt = number_again n lt
-place_full W32 bits n lt = number_again n lt
-place_full W64 bits n lt = number_again n lt
+place_full W8 bits n lt = number_register n lt
+place_full W16 bits n lt = number_register n lt
+place_full W32 bits n lt = number_register n lt
+place_full W64 bits n lt = number_register n lt
 
 low_field : (m f : ℕ) → f < 8 → m ≡ f → m % 8 ≡ f
 low_field m f lt e = omega arith
@@ -71,19 +56,19 @@ field_r w (Some bits) f lt = full_field (place_number (register_place w (Some bi
 base_again : (rex : Option ℕ) (byte : ℕ) → base_field (base_at rex byte None) ≡ rm byte
 base_again rex byte = elim (cases_Bool (without_base byte None)) [
   | inl hit ↦ rw hit (sym (eqb-true (rm byte) 5 (and_parts (mode byte == 0) (rm byte == 5) hit).1))
-  | inr miss ↦ (let b = bit_b rex in rw miss (full_field (number (register (rm byte + 8 * rex_b rex))) (rm byte) (rex_b rex) (omega arith) (number_again (rm byte + 8 * rex_b rex) (omega arith))))
+  | inr miss ↦ (let b = bit_b rex in rw miss (full_field (number (register (rm byte + 8 * rex_b rex))) (rm byte) (rex_b rex) (omega arith) (number_register (rm byte + 8 * rex_b rex) (omega arith))))
 ]
 
 base_sib_again : (rex : Option ℕ) (byte sib : ℕ) → base_field (base_at rex byte (Some sib)) ≡ parts.base sib
 base_sib_again rex byte sib = elim (cases_Bool (without_base byte (Some sib))) [
   | inl hit ↦ rw hit (sym (eqb-true (parts.base sib) 5 (and_parts (mode byte == 0) (parts.base sib == 5) hit).1))
-  | inr miss ↦ (let b = bit_b rex in rw miss (full_field (number (register (parts.base sib + 8 * rex_b rex))) (parts.base sib) (rex_b rex) (omega arith) (number_again (parts.base sib + 8 * rex_b rex) (omega arith))))
+  | inr miss ↦ (let b = bit_b rex in rw miss (full_field (number (register (parts.base sib + 8 * rex_b rex))) (parts.base sib) (rex_b rex) (omega arith) (number_register (parts.base sib + 8 * rex_b rex) (omega arith))))
 ]
 
 index_again : (rex : Option ℕ) (sib : ℕ) → index_field (index_at rex (Some sib)) ≡ index sib
 index_again rex sib = elim (cases_Bool (index sib + 8 * rex_x rex == 4)) [
   | inl hit ↦ (let e : index sib + 8 * rex_x rex ≡ 4 = eqb-true (index sib + 8 * rex_x rex) 4 hit in rw hit (omega arith))
-  | inr miss ↦ (let x = bit_x rex in rw miss (full_field (number (register (index sib + 8 * rex_x rex))) (index sib) (rex_x rex) (omega arith) (number_again (index sib + 8 * rex_x rex) (omega arith))))
+  | inr miss ↦ (let x = bit_x rex in rw miss (full_field (number (register (index sib + 8 * rex_x rex))) (index sib) (rex_x rex) (omega arith) (number_register (index sib + 8 * rex_x rex) (omega arith))))
 ]
 
 four_of : (byte : ℕ) → takes_sib byte ≡ true → 4 ≡ rm byte
@@ -108,10 +93,10 @@ pub disp_again : (n : ℕ) (bs : List ℕ) → length bs ≡ n → IsBytes bs �
 disp_again n bs e h (inl le) = signed_again n bs e h le
 disp_again n bs e h (inr is) = (let four : length bs ≡ 4 = e ∙ is in rw is (signed_again_4 bs four h))
 
-abbrev bounded : ℕ → Type 0
-bounded n = (n ≤ 2) ⊎ (n ≡ 4)
+abbrev pub IsWritten : ℕ → Type 0
+IsWritten n = (n ≤ 2) ⊎ (n ≡ 4)
 
-some_length : (a b c : Bool) → bounded (cond a 1 (cond b 4 (cond c 4 0)))
+some_length : (a b c : Bool) → IsWritten (cond a 1 (cond b 4 (cond c 4 0)))
 some_length true b c = inl (omega arith)
 some_length false true c = inr refl
 some_length false false true = inr refl

@@ -12,21 +12,20 @@ use Rattle.vw_rows.specs.declared.patterns.Prefix.TheVariants.{Plain, P66}
 use Rattle.vw_rows.specs.declared.patterns.Prefixes.{Prefixes}
 use Rattle.vw_rows.specs.declared.patterns.Prefixes.TheVariants as pre
 use Rattle.vw_rows.specs.Lookup.{takes_prefix}
-use Rattle.vw_rows.proofs.Matching.{tests-of}
-use Rattle.vw_encode.proofs.Rows.{plain_or_66}
+use Rattle.vw_encode.proofs.Rows.{only_prefix, none_or_66}
 use Rattle.vw_rows.specs.declared.forms.Operands.{Operands}
 use Rattle.vw_rows.specs.declared.forms.Operands.TheVariants as ops
 use Rattle.vw_rows.specs.declared.forms.Row.{Row}
 use Rattle.vw_rows.specs.Parts.{Parts, mode, scale, rex_w}
-use Rattle.vw_rows.specs.Layout.{key_of, has_modrm, width_at}
+use Rattle.vw_rows.specs.Layout.{has_modrm, width_at}
 use Rattle.vw_encode.specs.declared.asked.Asked.{Asked}
 use Rattle.vw_encode.specs.declared.buffer.Spelled.{Spelled}
 use Rattle.vw_encode.specs.declared.candidate.Choice.{Choice}
-use Rattle.vw_encode.specs.Asked.{asked}
-use Rattle.vw_encode.specs.Candidate.{operand_number, operand_memory, digit_or_zero, reg_field, base_field, index_field, rm_in_memory, rm_field, modrm_byte, sib_field, modrm_candidate, optional_modrm, candidate}
-use Rattle.vw_encode.specs.Normal.{Normal, IsChosen, Without, mode_of, scale_in, scale_of}
-use Rattle.vw_encode.specs.Order.{prefix_rank, rank_of, mode_rank, PartsBefore}
-use Rattle.vw_encode.specs.Found.{Made, AtMost, FirstOf}
+use Rattle.vw_encode.specs.search.Asked.{operands_asked}
+use Rattle.vw_encode.specs.search.Candidate.{operand_number, operand_memory, digit_or_zero, reg_field, base_field, index_field, rm_in_memory, rm_field, modrm_byte, sib_field, modrm_candidate, optional_modrm, candidate}
+use Rattle.vw_encode.specs.search.Normal.{Normal, IsChosen, Without}
+use Rattle.vw_encode.specs.Order.{mode_of, scale_in, scale_of, prefix_rank, rank_of, mode_rank, PartsBefore}
+use Rattle.vw_encode.specs.search.Found.{Made, AtMost, FirstOf}
 use Rattle.vw_encode.proofs.Excluded.{same_width, with_sib}
 use Rattle.vw_encode.proofs.Facts.{mode_below}
 use Rattle.vw_encode.proofs.Candidates.{candidate_again}
@@ -94,15 +93,15 @@ mode_most true row c a = rw (mode_made row c a) (omega arith)
 at_most : (made : Parts) (row : Row) (w : Width) (c : Choice) (a : Asked) → made ≡ candidate row w c a → AtMost made c
 at_most made row w c a e = subst (λ (q : Parts). AtMost q c) (sym e) (record { prefix = refl; rex = refl; scale = scale_most (has_modrm row.operands) row c a; mode = mode_most (has_modrm row.operands) row c a })
 
-pub first_at : (made : Parts) (row : Row) (w : Width) (insn : Insn) (c : Choice) → width_at row.width c.prefix (rex_w c.rex) ≡ Some w → made ≡ candidate row w c (asked insn) → (s : Spelled) → Made s made row w insn → FirstOf s row insn (λ q. AtMost q c) (λ p. IsChosen p c)
+pub first_at : (made : Parts) (row : Row) (w : Width) (insn : Insn) (c : Choice) → width_at row.width c.prefix (rex_w c.rex) ≡ Some w → made ≡ candidate row w c (operands_asked insn) → (s : Spelled) → Made s made row w insn → FirstOf s row insn (λ q. AtMost q c) (λ p. IsChosen p c)
 first_at made row w insn c width is s m = record {
   parts = made;
   width = w;
   made = m;
-  at = at_most made row w c (asked insn) is;
+  at = at_most made row w c (operands_asked insn) is;
   first = λ p n at. inl (
       let e : n.width ≡ w = same_width p row insn c.prefix c.rex w n at.prefix at.rex width in
-      sym (subst (λ (v : Width). candidate row v c (asked insn) ≡ p) e (candidate_again p row insn n c at)) ∙ sym is);
+      sym (subst (λ (v : Width). candidate row v c (operands_asked insn) ≡ p) e (candidate_again p row insn n c at)) ∙ sym is);
 }
 
 -- ---- of two choices the earlier one
@@ -275,9 +274,7 @@ first_prefix row insn ps prefix e only s f = record {
   width = f.width;
   made = f.made;
   at = tt;
-  first = λ p n at.
-      let t = tests-of row (key_of p) n.laid.found in
-      f.first p n (only p.prefix (subst (λ (x : Prefixes). takes_prefix x p.prefix ≡ true) e t.prefix));
+  first = λ p n at. f.first p n (only_prefix row insn ps prefix e only p n);
 }
 
 pub first_without_66 : (row : Row) (insn : Insn) → row.pattern.prefixes ≡ pre.PlainOr66 → (s : Spelled) → FirstOf s row insn (λ q. q.prefix ≡ Plain) (λ p. p.prefix ≡ Plain) → FirstOf s row insn Always Always
@@ -286,13 +283,11 @@ first_without_66 row insn e s f = record {
   width = f.width;
   made = f.made;
   at = tt;
-  first = λ p n at.
-      let t = tests-of row (key_of p) n.laid.found in
-      elim (plain_or_66 p.prefix (subst (λ (x : Prefixes). takes_prefix x p.prefix ≡ true) e t.prefix)) [
-        | inl is ↦ f.first p n is
-        | inr is ↦ inr (let own : prefix_rank f.parts.prefix ≡ 0 = ap prefix_rank f.at in
-            let other : prefix_rank p.prefix ≡ 1 = ap prefix_rank is in before_by_prefix f.parts p (omega arith))
-      ];
+  first = λ p n at. elim (none_or_66 row insn e p n) [
+    | inl is ↦ f.first p n is
+    | inr is ↦ inr (let own : prefix_rank f.parts.prefix ≡ 0 = ap prefix_rank f.at in
+        let other : prefix_rank p.prefix ≡ 1 = ap prefix_rank is in before_by_prefix f.parts p (omega arith))
+  ];
 }
 
 pub first_with_66 : (row : Row) (insn : Insn) → row.pattern.prefixes ≡ pre.PlainOr66 → Without row insn (λ p. p.prefix ≡ Plain) → (s : Spelled) → FirstOf s row insn (λ q. q.prefix ≡ P66) (λ p. p.prefix ≡ P66) → FirstOf s row insn Always Always
@@ -301,10 +296,8 @@ first_with_66 row insn e plain s f = record {
   width = f.width;
   made = f.made;
   at = tt;
-  first = λ p n at.
-      let t = tests-of row (key_of p) n.laid.found in
-      elim (plain_or_66 p.prefix (subst (λ (x : Prefixes). takes_prefix x p.prefix ≡ true) e t.prefix)) [
-        | inl is ↦ absurd (plain p n is)
-        | inr is ↦ f.first p n is
-      ];
+  first = λ p n at. elim (none_or_66 row insn e p n) [
+    | inl is ↦ absurd (plain p n is)
+    | inr is ↦ f.first p n is
+  ];
 }

@@ -8,10 +8,10 @@ use Rattle.vw_rows.specs.Rows.{rows}
 use Rattle.vw_rows.specs.Lookup.{IsIn, matches}
 use Rattle.vw_rows.specs.Parts.{Modrm, Parts, bytes_of, rex_w}
 use Rattle.vw_rows.specs.Layout.{key_of, has_modrm, takes_sib, displacement_length, has_sib, IsModrm, immediate_length, has_fixed, IsRex, width_at, IsLaid}
-use Rattle.vw_encode.specs.Normal.{same_bool, modrm_fits, is_laid}
-use Rattle.vw_encode.proofs.Lengths.{spelled_length}
+use Rattle.vw_encode.specs.search.Normal.{same_bool, modrm_fits, is_laid}
+use Rattle.vw_rows.proofs.Lengths.{spelled_length}
 
-same_is : (a b : Bool) → same_bool a b ≡ true → b ≡ a
+pub same_is : (a b : Bool) → same_bool a b ≡ true → b ≡ a
 same_is true b h = h
 same_is false true h = absurd (false≢true h)
 same_is false false h = refl

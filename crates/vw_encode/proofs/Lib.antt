@@ -1,5 +1,4 @@
 mod Buffers
-mod Lengths
 mod Laid
 mod Told
 mod Digits

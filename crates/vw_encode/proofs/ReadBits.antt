@@ -1,6 +1,6 @@
 -- A spelling without the bits of REX that nothing of its row reads says the same.
 use Rattle.std.proofs.Common.{◌≡◌, ◌⊎◌, ℕ, ◌+◌, ◌*◌, ◌%◌, ◌<◌, ◌==◌, Bool, true, false, not, ◌&&◌, ◌||◌, cond, ltb, Option, None, Some, IfSome, refl, ◌∙◌, ap, subst, inl, inr}
-use Rattle.std.proofs.lemmas.Bool.{and_parts, eqb-true, ltb-true, false≢true}
+use Rattle.std.proofs.lemmas.Bool.{and_parts, or_cases, or_left, or_right, eqb-true, ltb-true, false≢true}
 use Rattle.vw_insn.specs.declared.registers.Width.{Width}
 use Rattle.vw_insn.specs.declared.registers.Width.TheVariants.{W8, W16, W32, W64}
 use Rattle.vw_rows.specs.declared.patterns.Prefix.{Prefix}
@@ -16,9 +16,11 @@ use Rattle.vw_rows.specs.Parts.{Modrm, Parts, rm, rex_w, rex_r, rex_x, rex_b}
 use Rattle.vw_rows.specs.Layout.{variable_width, wide_width, width_at, has_fixed, IsRex, IsLaid}
 use Rattle.vw_rows.specs.Shape.{has_rex, register_place, base_at, index_at, memory_at, rm_place, reg_number, xmm_operand, rm_width, first_place, second_place, xmm_register, xmm_second}
 use Rattle.vw_rows.specs.Meaning.{insn_of}
-use Rattle.vw_encode.specs.Normal.{implies, same_bool, reads_w, reads_r, reads_x, reads_b, is_byte, extends_byte, reads_byte, lean_bits, is_lean_bits, is_lean}
+use Rattle.vw_encode.specs.search.Normal.{implies, same_bool, reads_w, reads_r, reads_x, reads_b, is_byte, extends_byte, reads_byte, lean_bits, is_lean_bits, is_lean}
 use Rattle.vw_encode.specs.Order.{rank_of}
-use Rattle.vw_encode.proofs.Digits.{below, below_at}
+use Rattle.vw_rows.proofs.Below.{below, below_at}
+use Rattle.vw_encode.proofs.Facts.{follows}
+use Rattle.vw_encode.proofs.Laid.{same_is}
 
 -- ---- the bits, by computation
 
@@ -39,8 +41,8 @@ abbrev is_lean_by : Bool → Bool → Bool → Bool → Bool → Option ℕ → 
 is_lean_by w r x b y None = true
 is_lean_by w r x b y (Some n) = is_lean_bits w r x b y n
 
-abbrev checked : Bool → Bool → Bool → Bool → Bool → ℕ → Option ℕ → Bool
-checked w r x b y n l =
+abbrev is_same_or_less : Bool → Bool → Bool → Bool → Bool → ℕ → Option ℕ → Bool
+is_same_or_less w r x b y n l =
     implies w (same_bool (rex_w (Some n)) (rex_w l)) && (implies r (rex_r l == rex_r (Some n)) && (implies x (rex_x l == rex_x (Some n)) && (implies b (rex_b l == rex_b (Some n)) && (implies y (has_rex l) && (is_lean_by w r x b y l && (below_16 l && (same_option l n || ltb (rank_of l) (n + 1))))))))
 
 abbrev each : (Bool → Bool) → Bool
@@ -51,19 +53,19 @@ each_at f h true = (and_parts (f true) (f false) h).0
 each_at f h false = (and_parts (f true) (f false) h).1
 
 abbrev all_of : Bool → Bool → Bool → Bool → Bool → Bool
-all_of w r x b y = below (λ n. checked w r x b y n (lean_by w r x b y (Some n))) 16
+all_of w r x b y = below (λ n. is_same_or_less w r x b y n (lean_by w r x b y (Some n))) 16
 
 every : each (λ w. each (λ r. each (λ x. each (λ b. each (λ y. all_of w r x b y))))) ≡ true
 every = refl
 
-checked_at : (w r x b y : Bool) (n : ℕ) → n < 16 → checked w r x b y n (lean_by w r x b y (Some n)) ≡ true
+checked_at : (w r x b y : Bool) (n : ℕ) → n < 16 → is_same_or_less w r x b y n (lean_by w r x b y (Some n)) ≡ true
 checked_at w r x b y n lt =
     let one = each_at (λ w. each (λ r. each (λ x. each (λ b. each (λ y. all_of w r x b y))))) every w in
     let two = each_at (λ r. each (λ x. each (λ b. each (λ y. all_of w r x b y)))) one r in
     let three = each_at (λ x. each (λ b. each (λ y. all_of w r x b y))) two x in
     let four = each_at (λ b. each (λ y. all_of w r x b y)) three b in
     let five = each_at (λ y. all_of w r x b y) four y in
-    below_at (λ n. checked w r x b y n (lean_by w r x b y (Some n))) 16 five n lt
+    below_at (λ n. is_same_or_less w r x b y n (lean_by w r x b y (Some n))) 16 five n lt
 
 -- what is left of a REX that the row has
 record Left (w r x b y : Bool) (rex l : Option ℕ) : Type 0 where
@@ -76,19 +78,6 @@ record Left (w r x b y : Bool) (rex l : Option ℕ) : Type 0 where
   bits : IsRex l
   order : (l ≡ rex) ⊎ (rank_of l < rank_of rex)
 
-implied : (a b : Bool) → implies a b ≡ true → a ≡ true → b ≡ true
-implied true b h e = h
-implied false b h e = absurd (false≢true e)
-
-bool_is : (a b : Bool) → same_bool a b ≡ true → b ≡ a
-bool_is true b h = h
-bool_is false true h = absurd (false≢true h)
-bool_is false false h = refl
-
-or_cases : (a b : Bool) → (a || b) ≡ true → (a ≡ true) ⊎ (b ≡ true)
-or_cases true b h = inl refl
-or_cases false b h = inr h
-
 bits_below : (l : Option ℕ) → below_16 l ≡ true → IsRex l
 bits_below None h = tt
 bits_below (Some n) h = ltb-true n 16 h
@@ -100,13 +89,13 @@ option_is : (l : Option ℕ) (n : ℕ) → same_option l n ≡ true → l ≡ So
 option_is None n h = absurd (false≢true h)
 option_is (Some m) n h = ap some_bits (eqb-true m n h)
 
-ordered : (l : Option ℕ) (n : ℕ) → (same_option l n || ltb (rank_of l) (n + 1)) ≡ true → (l ≡ Some n) ⊎ (rank_of l < rank_of (some_bits n))
-ordered l n h = elim (or_cases (same_option l n) (ltb (rank_of l) (n + 1)) h) [
+order_of_bits : (l : Option ℕ) (n : ℕ) → (same_option l n || ltb (rank_of l) (n + 1)) ≡ true → (l ≡ Some n) ⊎ (rank_of l < rank_of (some_bits n))
+order_of_bits l n h = elim (or_cases (same_option l n) (ltb (rank_of l) (n + 1)) h) [
   | inl is ↦ inl (option_is l n is)
   | inr less ↦ inr (ltb-true (rank_of l) (n + 1) less)
 ]
 
-left_of : (w r x b y : Bool) (n : ℕ) (l : Option ℕ) → checked w r x b y n l ≡ true → Left w r x b y (Some n) l
+left_of : (w r x b y : Bool) (n : ℕ) (l : Option ℕ) → is_same_or_less w r x b y n l ≡ true → Left w r x b y (Some n) l
 left_of w r x b y n l h =
     let a1 = and_parts (implies w (same_bool (rex_w (Some n)) (rex_w l))) (implies r (rex_r l == rex_r (Some n)) && (implies x (rex_x l == rex_x (Some n)) && (implies b (rex_b l == rex_b (Some n)) && (implies y (has_rex l) && (is_lean_by w r x b y l && (below_16 l && (same_option l n || ltb (rank_of l) (n + 1)))))))) h in
     let a2 = and_parts (implies r (rex_r l == rex_r (Some n))) (implies x (rex_x l == rex_x (Some n)) && (implies b (rex_b l == rex_b (Some n)) && (implies y (has_rex l) && (is_lean_by w r x b y l && (below_16 l && (same_option l n || ltb (rank_of l) (n + 1))))))) a1.1 in
@@ -116,14 +105,14 @@ left_of w r x b y n l h =
     let a6 = and_parts (is_lean_by w r x b y l) (below_16 l && (same_option l n || ltb (rank_of l) (n + 1))) a5.1 in
     let a7 = and_parts (below_16 l) (same_option l n || ltb (rank_of l) (n + 1)) a6.1 in
     record {
-      w_is = λ e. bool_is (rex_w (Some n)) (rex_w l) (implied w (same_bool (rex_w (Some n)) (rex_w l)) a1.0 e);
-      r_is = λ e. eqb-true (rex_r l) (rex_r (Some n)) (implied r (rex_r l == rex_r (Some n)) a2.0 e);
-      x_is = λ e. eqb-true (rex_x l) (rex_x (Some n)) (implied x (rex_x l == rex_x (Some n)) a3.0 e);
-      b_is = λ e. eqb-true (rex_b l) (rex_b (Some n)) (implied b (rex_b l == rex_b (Some n)) a4.0 e);
-      y_is = λ e. implied y (has_rex l) a5.0 e;
+      w_is = λ e. same_is (rex_w (Some n)) (rex_w l) (follows w (same_bool (rex_w (Some n)) (rex_w l)) a1.0 e);
+      r_is = λ e. eqb-true (rex_r l) (rex_r (Some n)) (follows r (rex_r l == rex_r (Some n)) a2.0 e);
+      x_is = λ e. eqb-true (rex_x l) (rex_x (Some n)) (follows x (rex_x l == rex_x (Some n)) a3.0 e);
+      b_is = λ e. eqb-true (rex_b l) (rex_b (Some n)) (follows b (rex_b l == rex_b (Some n)) a4.0 e);
+      y_is = λ e. follows y (has_rex l) a5.0 e;
       lean = a6.0;
       bits = bits_below l a7.0;
-      order = ordered l n a7.1;
+      order = order_of_bits l n a7.1;
     }
 
 left_by : (w r x b y : Bool) (rex : Option ℕ) → IsRex rex → Left w r x b y rex (lean_by w r x b y rex)
@@ -145,7 +134,7 @@ lean_is r (Some n) h = h
 
 -- ---- what the parts name
 
-abbrev with_rex : Parts → Option ℕ → Parts
+abbrev pub with_rex : Parts → Option ℕ → Parts
 with_rex p rex = record { prefix = p.prefix; rex = rex; map = p.map; opcode = p.opcode; modrm = p.modrm; imm = p.imm }
 
 abbrev pub lean_parts : Row → Parts → Parts
@@ -204,14 +193,6 @@ sized_only size.Wide p false = λ h. absurd (false≢true h)
 byte_width : (row : Row) (p : Parts) (w : Width) → IsLaid p row w → is_w8 w ≡ true → is_byte row.width ≡ true
 byte_width row p w laid h = (subst (λ (o : Option Width). byte_only row.width o) laid.width (sized_only row.width p.prefix (rex_w p.rex))) h
 
-or_left : (a b : Bool) → a ≡ true → (a || b) ≡ true
-or_left true b h = refl
-or_left false b h = absurd (false≢true h)
-
-or_right : (a b : Bool) → b ≡ true → (a || b) ≡ true
-or_right true b h = refl
-or_right false b h = h
-
 -- and E is a byte by such a row, or by one that extends a byte
 byte_rm : (k : Kind) (s : Sizing) (w : Width) → (is_w8 w ≡ true → is_byte s ≡ true) → is_w8 (rm_width k w) ≡ true → (is_byte s || extends_byte k) ≡ true
 byte_rm (kind.Extend g W8) s w e h = or_right (is_byte s) true refl
@@ -257,22 +238,22 @@ record Named (o : Operands) (k : Kind) (w : Width) (p : Parts) (l : Option ℕ) 
   operand : xmm_second o (with_rex p l) ≡ xmm_second o p
   fixed : has_fixed o (with_rex p l) ≡ has_fixed o p
 
-named : (o : Operands) (k : Kind) (w : Width) (p : Parts) (l : Option ℕ) → (is_w8 w ≡ true → has_rex l ≡ has_rex p.rex) → (is_w8 (rm_width k w) ≡ true → has_rex l ≡ has_rex p.rex) → (reads_r o ≡ true → rex_r l ≡ rex_r p.rex) → (reads_x o ≡ true → rex_x l ≡ rex_x p.rex) → (reads_b o ≡ true → rex_b l ≡ rex_b p.rex) → Named o k w p l
-named ops.None k w p l h i r x b = record { first = refl; second = refl; register = refl; operand = refl; fixed = refl }
-named ops.EG k w p l h i r x b = record { first = same_rm (rm_width k w) l p.rex p.modrm i (b refl) (x refl); second = rw (same_reg l p.rex p.modrm (r refl)) (same_register w l p.rex (reg_number p.rex p.modrm) h); register = refl; operand = refl; fixed = refl }
-named ops.GE k w p l h i r x b = record { first = rw (same_reg l p.rex p.modrm (r refl)) (same_register w l p.rex (reg_number p.rex p.modrm) h); second = same_rm (rm_width k w) l p.rex p.modrm i (b refl) (x refl); register = refl; operand = refl; fixed = refl }
-named ops.Accumulator k w p l h i r x b = record { first = refl; second = refl; register = refl; operand = refl; fixed = refl }
-named ops.E k w p l h i r x b = record { first = same_rm (rm_width k w) l p.rex p.modrm i (b refl) (x refl); second = refl; register = refl; operand = refl; fixed = refl }
-named ops.OpcodeReg k w p l h i r x b = record { first = rw (b refl) (same_register w l p.rex (p.opcode % 8 + 8 * rex_b p.rex) h); second = refl; register = refl; operand = refl; fixed = refl }
-named ops.WithoutRexB k w p l h i r x b = record { first = refl; second = refl; register = refl; operand = refl; fixed = rw (b refl) refl }
-named ops.EndsInFa k w p l h i r x b = record { first = refl; second = refl; register = refl; operand = refl; fixed = refl }
-named ops.Xmm k w p l h i r x b = record { first = refl; second = refl; register = same_reg l p.rex p.modrm (r refl); operand = same_xmm l p.rex p.modrm (b refl) (x refl); fixed = refl }
+same_names : (o : Operands) (k : Kind) (w : Width) (p : Parts) (l : Option ℕ) → (is_w8 w ≡ true → has_rex l ≡ has_rex p.rex) → (is_w8 (rm_width k w) ≡ true → has_rex l ≡ has_rex p.rex) → (reads_r o ≡ true → rex_r l ≡ rex_r p.rex) → (reads_x o ≡ true → rex_x l ≡ rex_x p.rex) → (reads_b o ≡ true → rex_b l ≡ rex_b p.rex) → Named o k w p l
+same_names ops.None k w p l h i r x b = record { first = refl; second = refl; register = refl; operand = refl; fixed = refl }
+same_names ops.EG k w p l h i r x b = record { first = same_rm (rm_width k w) l p.rex p.modrm i (b refl) (x refl); second = rw (same_reg l p.rex p.modrm (r refl)) (same_register w l p.rex (reg_number p.rex p.modrm) h); register = refl; operand = refl; fixed = refl }
+same_names ops.GE k w p l h i r x b = record { first = rw (same_reg l p.rex p.modrm (r refl)) (same_register w l p.rex (reg_number p.rex p.modrm) h); second = same_rm (rm_width k w) l p.rex p.modrm i (b refl) (x refl); register = refl; operand = refl; fixed = refl }
+same_names ops.Accumulator k w p l h i r x b = record { first = refl; second = refl; register = refl; operand = refl; fixed = refl }
+same_names ops.E k w p l h i r x b = record { first = same_rm (rm_width k w) l p.rex p.modrm i (b refl) (x refl); second = refl; register = refl; operand = refl; fixed = refl }
+same_names ops.OpcodeReg k w p l h i r x b = record { first = rw (b refl) (same_register w l p.rex (p.opcode % 8 + 8 * rex_b p.rex) h); second = refl; register = refl; operand = refl; fixed = refl }
+same_names ops.WithoutRexB k w p l h i r x b = record { first = refl; second = refl; register = refl; operand = refl; fixed = rw (b refl) refl }
+same_names ops.EndsInFa k w p l h i r x b = record { first = refl; second = refl; register = refl; operand = refl; fixed = refl }
+same_names ops.Xmm k w p l h i r x b = record { first = refl; second = refl; register = same_reg l p.rex p.modrm (r refl); operand = same_xmm l p.rex p.modrm (b refl) (x refl); fixed = refl }
 
 named_of : (p : Parts) (r : Row) (w : Width) → IsLaid p r w → Named r.operands r.kind w p (lean_rex r p.rex)
 named_of p r w laid =
     let l = left r p.rex laid.rex in
     let byte : is_w8 w ≡ true → is_byte r.width ≡ true = byte_width r p w laid in
-    named r.operands r.kind w p (lean_rex r p.rex) (λ h. l.y_is (or_left (is_byte r.width) (extends_byte r.kind) (byte h))) (λ h. l.y_is (byte_rm r.kind r.width w byte h)) l.r_is l.x_is l.b_is
+    same_names r.operands r.kind w p (lean_rex r p.rex) (λ h. l.y_is (or_left (is_byte r.width) (extends_byte r.kind) (byte h))) (λ h. l.y_is (byte_rm r.kind r.width w byte h)) l.r_is l.x_is l.b_is
 
 pub lean_laid : (p : Parts) (r : Row) (w : Width) → IsLaid p r w → IsLaid (lean_parts r p) r w
 lean_laid p r w laid =

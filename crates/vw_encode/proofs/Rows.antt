@@ -21,10 +21,10 @@ use Rattle.vw_rows.specs.Lookup.{IsIn, takes_prefix}
 use Rattle.vw_rows.specs.Layout.{key_of}
 use Rattle.vw_rows.proofs.Matching.{tests-of}
 use Rattle.vw_encode.specs.declared.buffer.Spelled.{Spelled}
-use Rattle.vw_encode.specs.Found.{FirstOf, FoundIn, is_candidate}
-use Rattle.vw_encode.specs.Kinds.{kind_number, insn_number, rows_of_kind, are_numbers, kinds_agree}
+use Rattle.vw_encode.specs.search.Found.{FirstOf, FoundIn, is_candidate}
+use Rattle.vw_encode.specs.search.Kinds.{kind_number, insn_number, rows_of_kind, are_numbers, kinds_agree}
 use Rattle.vw_rows.specs.Parts.{Parts}
-use Rattle.vw_encode.specs.Normal.{Without}
+use Rattle.vw_encode.specs.search.Normal.{Normal, Without}
 
 abbrev pub no_row : Option Row
 no_row = None
@@ -172,8 +172,8 @@ kind-rows insn = refl
 abbrev pub Answered : ℕ → Insn → Option Spelled → Type 0
 Answered n insn o = (r : Row) → IsIn r rows → r.number ≡ n → MatchOption o (Without r insn (λ p. Unit {0})) (λ s. FirstOf s r insn (λ q. Unit {0}) (λ p. Unit {0}))
 
-answered : (ns : List ℕ) (insn : Insn) (i d : ℕ) (o : Option Spelled) → are_numbers ns (rows_of_kind (insn_number insn)) ≡ true → i < length ns → Answered (get_or ns i d) insn o → MatchOption o (Without (get_or (filter (of_kind insn) rows) i any_row) insn Always) (λ s. FirstOf s (get_or (filter (of_kind insn) rows) i any_row) insn Always Always)
-answered ns insn i d o e lt h =
+answer_by_place : (ns : List ℕ) (insn : Insn) (i d : ℕ) (o : Option Spelled) → are_numbers ns (rows_of_kind (insn_number insn)) ≡ true → i < length ns → Answered (get_or ns i d) insn o → MatchOption o (Without (get_or (filter (of_kind insn) rows) i any_row) insn Always) (λ s. FirstOf s (get_or (filter (of_kind insn) rows) i any_row) insn Always Always)
+answer_by_place ns insn i d o e lt h =
     let agree : are_numbers ns (filter (of_kind insn) rows) ≡ true = subst (λ (l : List Row). are_numbers ns l ≡ true) (kind-rows insn) e in
     let len = numbers-length ns (filter (of_kind insn) rows) agree in
     h (get_or (filter (of_kind insn) rows) i any_row) (listed_at (of_kind insn) i any_row (omega arith)) (numbers-at ns (filter (of_kind insn) rows) agree i d any_row lt)
@@ -182,7 +182,7 @@ pub one_number_more : (ns : List ℕ) (insn : Insn) (i d : ℕ) → are_numbers 
 one_number_more ns insn i d e lt before h =
     let agree : are_numbers ns (filter (of_kind insn) rows) ≡ true = subst (λ (l : List Row). are_numbers ns l ≡ true) (kind-rows insn) e in
     let len = numbers-length ns (filter (of_kind insn) rows) agree in
-    one_more (filter (of_kind insn) rows) i any_row insn (omega arith) before (answered ns insn i d None e lt h)
+    one_more (filter (of_kind insn) rows) i any_row insn (omega arith) before (answer_by_place ns insn i d None e lt h)
 
 pub kind_passed : (ns : List ℕ) (insn : Insn) (i : ℕ) → are_numbers ns (rows_of_kind (insn_number insn)) ≡ true → length ns ≤ i → Passed (take i (filter (λ (r : Row). kind_number r.kind == insn_number insn) rows)) insn → (r : Row) → IsIn r rows → is_candidate insn r ≡ true → Without r insn (λ p. Unit {0})
 kind_passed ns insn i e le h r listed same =
@@ -196,7 +196,7 @@ found_of_kind ns insn i d s e lt passed h =
     let len = numbers-length ns (filter (of_kind insn) rows) agree in
     record {
       row = get_or (filter (of_kind insn) rows) i any_row;
-      best = answered ns insn i d (Some s) e lt h;
+      best = answer_by_place ns insn i d (Some s) e lt h;
       later = found_in (of_kind insn) i any_row insn s (omega arith) passed;
     }
 
@@ -249,20 +249,29 @@ pub pf3_only : (q : Prefix) → takes_prefix pre.PF3 q ≡ true → q ≡ PF3
 pf3_only PF3 h = refl
 pf3_only _ h = absurd (false≢true h)
 
-pub plain_or_66 : (q : Prefix) → takes_prefix pre.PlainOr66 q ≡ true → (q ≡ Plain) ⊎ (q ≡ P66)
+plain_or_66 : (q : Prefix) → takes_prefix pre.PlainOr66 q ≡ true → (q ≡ Plain) ⊎ (q ≡ P66)
 plain_or_66 Plain h = inl refl
 plain_or_66 P66 h = inr refl
 plain_or_66 _ h = absurd (false≢true h)
 
-pub one_prefix : (row : Row) (insn : Insn) (ps : Prefixes) (prefix : Prefix) → row.pattern.prefixes ≡ ps → ((q : Prefix) → takes_prefix ps q ≡ true → q ≡ prefix) → Without row insn (λ p. p.prefix ≡ prefix) → Without row insn (λ p. Unit {0})
-one_prefix row insn ps prefix e only h p n u =
+-- the prefix of a spelling is one that its row takes
+its_prefix : (row : Row) (insn : Insn) (ps : Prefixes) → row.pattern.prefixes ≡ ps → (p : Parts) → Normal p row insn → takes_prefix ps p.prefix ≡ true
+its_prefix row insn ps e p n =
     let t = tests-of row (key_of p) n.laid.found in
-    h p n (only p.prefix (subst (λ (x : Prefixes). takes_prefix x p.prefix ≡ true) e t.prefix))
+    subst (λ (x : Prefixes). takes_prefix x p.prefix ≡ true) e t.prefix
+
+pub only_prefix : (row : Row) (insn : Insn) (ps : Prefixes) (prefix : Prefix) → row.pattern.prefixes ≡ ps → ((q : Prefix) → takes_prefix ps q ≡ true → q ≡ prefix) → (p : Parts) → Normal p row insn → p.prefix ≡ prefix
+only_prefix row insn ps prefix e only p n = only p.prefix (its_prefix row insn ps e p n)
+
+pub none_or_66 : (row : Row) (insn : Insn) → row.pattern.prefixes ≡ pre.PlainOr66 → (p : Parts) → Normal p row insn → (p.prefix ≡ Plain) ⊎ (p.prefix ≡ P66)
+none_or_66 row insn e p n = plain_or_66 p.prefix (its_prefix row insn pre.PlainOr66 e p n)
+
+pub one_prefix : (row : Row) (insn : Insn) (ps : Prefixes) (prefix : Prefix) → row.pattern.prefixes ≡ ps → ((q : Prefix) → takes_prefix ps q ≡ true → q ≡ prefix) → Without row insn (λ p. p.prefix ≡ prefix) → Without row insn (λ p. Unit {0})
+one_prefix row insn ps prefix e only h p n u = h p n (only_prefix row insn ps prefix e only p n)
 
 pub two_prefixes : (row : Row) (insn : Insn) → row.pattern.prefixes ≡ pre.PlainOr66 → Without row insn (λ p. p.prefix ≡ Plain) → Without row insn (λ p. p.prefix ≡ P66) → Without row insn (λ p. Unit {0})
 two_prefixes row insn e plain other p n u =
-    let t = tests-of row (key_of p) n.laid.found in
-    elim (plain_or_66 p.prefix (subst (λ (x : Prefixes). takes_prefix x p.prefix ≡ true) e t.prefix)) [ inl is ↦ plain p n is | inr is ↦ other p n is ]
+    elim (none_or_66 row insn e p n) [ inl is ↦ plain p n is | inr is ↦ other p n is ]
 
 pub both_mapped : {A B : Type 0} (P Q : Spelled → Type 0) (r : Option Spelled) → (A → B) → ((s : Spelled) → P s → Q s) → MatchOption r A P → MatchOption r B Q
 both_mapped P Q (Some s) f g h = g s h

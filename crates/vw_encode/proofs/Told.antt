@@ -15,8 +15,8 @@ use Rattle.vw_insn.specs.declared.instruction.Insn.{Insn}
 use Rattle.vw_rows.specs.Parts.{Parts}
 use Rattle.vw_rows.specs.Shape.{shape_of}
 use Rattle.vw_rows.specs.Meaning.{insn_of, register_in, memory_in, is_given, source_or, third_operand, count_by, mov_immediate, built}
-use Rattle.vw_encode.specs.Asked.{place_in, signed_in, signed_or_none, count_in, asked}
-use Rattle.vw_encode.specs.Normal.{tells_first, tells_second, tells_signed, tells_byte, is_xmm, is_mov, register_first, is_xchg, is_lea, shape_asked}
+use Rattle.vw_encode.specs.search.Asked.{place_in, signed_in, signed_or_none, count_in, operands_asked}
+use Rattle.vw_encode.specs.search.Normal.{tells_first, tells_second, tells_signed, tells_byte, is_xmm, is_mov, register_first, is_xchg, is_lea, shape_asked}
 
 abbrev pub is_reg : Place → Bool
 is_reg (place.Reg _) = true
@@ -53,7 +53,7 @@ third_given false n h = absurd (false≢true h)
 abbrev no : false ≡ true → ⊥
 no h = false≢true h
 
-pub told_first : (k : Kind) (i : Immediate) (s : Shape) → tells_first k (is_given i) ≡ true → (register_first k ≡ true → is_reg s.first ≡ true) → (asked (built k i s)).first ≡ s.first
+pub told_first : (k : Kind) (i : Immediate) (s : Shape) → tells_first k (is_given i) ≡ true → (register_first k ≡ true → is_reg s.first ≡ true) → (operands_asked (built k i s)).first ≡ s.first
 told_first (kind.Alu op) i s h r = refl
 told_first kind.Push i s h r = place_given (is_given i) s.first s.signed h
 told_first kind.Pop i s h r = reg_again s.first (r refl)
@@ -71,7 +71,7 @@ told_first kind.Xchg i s h r = reg_again s.first (r refl)
 told_first kind.Mov i s h r = refl
 told_first kind.MovImm i s h r = mov_first s.w s.first s.signed s.word (r refl)
   where
-    mov_first : (w : Width) (p : Place) (n : ℤ) (word : ℕ) → is_reg p ≡ true → (asked (mov_immediate w p n word)).first ≡ p
+    mov_first : (w : Width) (p : Place) (n : ℤ) (word : ℕ) → is_reg p ≡ true → (operands_asked (mov_immediate w p n word)).first ≡ p
     mov_first W8 p n word r = refl
     mov_first W16 p n word r = refl
     mov_first W32 p n word r = refl
@@ -92,7 +92,7 @@ told_first kind.Bswap i s h r = reg_again s.first (r refl)
 told_first kind.Endbr i s h r = absurd (no h)
 told_first (kind.Xmm x) i s h r = absurd (no h)
 
-pub told_second : (k : Kind) (i : Immediate) (s : Shape) → tells_second k (is_given i) ≡ true → (is_xchg k ≡ true → is_reg s.second ≡ true) → (is_lea k ≡ true → is_mem s.second ≡ true) → (asked (built k i s)).second ≡ s.second
+pub told_second : (k : Kind) (i : Immediate) (s : Shape) → tells_second k (is_given i) ≡ true → (is_xchg k ≡ true → is_reg s.second ≡ true) → (is_lea k ≡ true → is_mem s.second ≡ true) → (operands_asked (built k i s)).second ≡ s.second
 told_second (kind.Alu op) i s h r m = place_given (is_given i) s.second s.signed h
 told_second kind.Push i s h r m = absurd (no h)
 told_second kind.Pop i s h r m = absurd (no h)
@@ -125,7 +125,7 @@ told_second kind.Bswap i s h r m = absurd (no h)
 told_second kind.Endbr i s h r m = absurd (no h)
 told_second (kind.Xmm x) i s h r m = absurd (no h)
 
-pub told_signed : (k : Kind) (i : Immediate) (s : Shape) → tells_signed k ≡ true → is_given i ≡ true → (asked (built k i s)).signed ≡ s.signed
+pub told_signed : (k : Kind) (i : Immediate) (s : Shape) → tells_signed k ≡ true → is_given i ≡ true → (operands_asked (built k i s)).signed ≡ s.signed
 told_signed (kind.Alu op) i s h g = signed_given (is_given i) s.second s.signed g
 told_signed kind.Push i s h g = signed_given (is_given i) s.first s.signed g
 told_signed kind.Pop i s h g = absurd (no h)
@@ -158,16 +158,16 @@ told_signed kind.Bswap i s h g = absurd (no h)
 told_signed kind.Endbr i s h g = absurd (no h)
 told_signed (kind.Xmm x) i s h g = absurd (no h)
 
-pub told_byte : (k : Kind) (s : Shape) → tells_byte k ≡ true → (asked (built k imm.Ub s)).byte ≡ s.byte
+pub told_byte : (k : Kind) (s : Shape) → tells_byte k ≡ true → (operands_asked (built k imm.Ub s)).byte ≡ s.byte
 told_byte (kind.Shift op) s h = refl
 told_byte (kind.Xmm x) s h = refl
 told_byte _ s h = absurd (no h)
 
 abbrev pub MovTold : Width → Shape → Kind → Immediate → Type 0
-MovTold W8 s k i = (asked (built k i s)).signed ≡ s.signed
-MovTold W16 s k i = (asked (built k i s)).signed ≡ s.signed
-MovTold W32 s k i = (asked (built k i s)).signed ≡ s.signed
-MovTold W64 s k i = (asked (built k i s)).word ≡ s.word
+MovTold W8 s k i = (operands_asked (built k i s)).signed ≡ s.signed
+MovTold W16 s k i = (operands_asked (built k i s)).signed ≡ s.signed
+MovTold W32 s k i = (operands_asked (built k i s)).signed ≡ s.signed
+MovTold W64 s k i = (operands_asked (built k i s)).word ≡ s.word
 
 pub told_mov : (k : Kind) (i : Immediate) (s : Shape) (w : Width) → s.w ≡ w → is_mov k ≡ true → MovTold w s k i
 told_mov kind.MovImm i s W8 e h = rw e refl
@@ -176,7 +176,7 @@ told_mov kind.MovImm i s W32 e h = rw e refl
 told_mov kind.MovImm i s W64 e h = rw e refl
 told_mov _ i s w e h = absurd (no h)
 
-pub told_xmm : (k : Kind) (i : Immediate) (s : Shape) → is_xmm k ≡ true → ((asked (built k i s)).reg ≡ s.reg) × ((asked (built k i s)).rm ≡ s.rm)
+pub told_xmm : (k : Kind) (i : Immediate) (s : Shape) → is_xmm k ≡ true → ((operands_asked (built k i s)).reg ≡ s.reg) × ((operands_asked (built k i s)).rm ≡ s.rm)
 told_xmm (kind.Xmm x) i s h = (refl, refl)
 told_xmm _ i s h = absurd (no h)
 
@@ -200,14 +200,14 @@ count_again imm.Cl n = refl
 count_again imm.Iv n = refl
 count_again imm.OpcodeByte n = refl
 
-mov_again : (w : Width) (p : Place) (n : ℤ) (word : ℕ) → mov_immediate w (asked (mov_immediate w p n word)).first (asked (mov_immediate w p n word)).signed (asked (mov_immediate w p n word)).word ≡ mov_immediate w p n word
+mov_again : (w : Width) (p : Place) (n : ℤ) (word : ℕ) → mov_immediate w (operands_asked (mov_immediate w p n word)).first (operands_asked (mov_immediate w p n word)).signed (operands_asked (mov_immediate w p n word)).word ≡ mov_immediate w p n word
 mov_again W8 p n word = refl
 mov_again W16 p n word = refl
 mov_again W32 p n word = refl
 mov_again W64 p n word = refl
 
 -- an instruction is built of its own operands
-pub built_again : (k : Kind) (i : Immediate) (s : Shape) → built k i (shape_asked s.w (asked (built k i s))) ≡ built k i s
+pub built_again : (k : Kind) (i : Immediate) (s : Shape) → built k i (shape_asked s.w (operands_asked (built k i s))) ≡ built k i s
 built_again (kind.Alu op) i s = rw (source_again (is_given i) s.second s.signed) refl
 built_again kind.Push i s = rw (source_again (is_given i) s.first s.signed) refl
 built_again kind.Pop i s = refl
@@ -241,5 +241,5 @@ built_again kind.Endbr i s = refl
 built_again (kind.Xmm x) i s = refl
 
 -- so an instruction that a row may spell is built of the operands that it tells
-pub may_be : (row : Row) (w : Width) (p : Parts) (insn : Insn) → insn_of row w p ≡ insn → built row.kind row.immediate (shape_asked w (asked insn)) ≡ insn
-may_be row w p insn meant = subst (λ (x : Insn). built row.kind row.immediate (shape_asked w (asked x)) ≡ x) meant (built_again row.kind row.immediate (shape_of row w p))
+pub may_be : (row : Row) (w : Width) (p : Parts) (insn : Insn) → insn_of row w p ≡ insn → built row.kind row.immediate (shape_asked w (operands_asked insn)) ≡ insn
+may_be row w p insn meant = subst (λ (x : Insn). built row.kind row.immediate (shape_asked w (operands_asked x)) ≡ x) meant (built_again row.kind row.immediate (shape_of row w p))

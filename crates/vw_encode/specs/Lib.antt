@@ -1,7 +1,2 @@
-pub mod Buffer
-pub mod Asked
-pub mod Candidate
-pub mod Normal
 pub mod Order
-pub mod Kinds
-pub mod Found
+pub mod search

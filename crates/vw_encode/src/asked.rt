@@ -2,7 +2,7 @@ ghost use Rattle.std.specs.Prelude.{◌≡◌, pos};
 ghost use Rattle.vw_insn.specs.declared.registers.Reg.TheVariants.{Rax};
 ghost use Rattle.vw_insn.specs.declared.operands.Place.TheVariants as place;
 ghost use Rattle.vw_insn.specs.Words.{number};
-ghost use Rattle.vw_encode.specs.Asked.{places, with_word, with_byte, on_xmm, place_in, signed_in, count_in, signed_or_none, asked, place_number, xmm_number, no_memory, place_memory, xmm_memory};
+ghost use Rattle.vw_encode.specs.search.Asked.{places, with_word, with_byte, on_xmm, place_in, signed_in, count_in, signed_or_none, operands_asked, place_number, xmm_number, no_memory, place_memory, xmm_memory};
 
 use vw_insn::{Base, Count, HighReg, Insn, Mem, Place, Reg, Source, XmmOperand};
 
@@ -20,7 +20,7 @@ pub(crate) struct Asked {
 }
 
 pub(crate) fn asked_by(insn: &Insn) -> Asked
-    ensures { result ≡ asked insn.now }
+    ensures { result ≡ operands_asked insn.now }
 {
     let none = Place::Reg(Reg::Rax);
     match *insn {

@@ -2,7 +2,7 @@ ghost use Rattle.std.specs.Prelude.{◌≡◌, ℕ, List, [], ◌∷◌};
 ghost use Rattle.vw_rows.specs.Parts.{prefix_bytes, rex_bytes, opcode_bytes, sib_bytes, modrm_bytes, bytes_of};
 ghost use Rattle.vw_rows.specs.Layout.{IsRex};
 ghost use Rattle.vw_rows.specs.Views.{optional_view, parts_view};
-ghost use Rattle.vw_encode.specs.Buffer.{Holds, Pushed};
+ghost use Rattle.vw_encode.specs.search.Buffer.{Holds, Pushed};
 
 use vw_rows::{Map, Modrm, Parts, Prefix};
 
@@ -16,7 +16,7 @@ pub struct Spelled {
 }
 
 // The bytes of the parts, where they are 15 or fewer.
-pub(crate) fn written(parts: &Parts<'_>) -> Option<Spelled>
+pub(crate) fn write_parts(parts: &Parts<'_>) -> Option<Spelled>
     requires { IsRex parts.now.rex }
     ensures { Pushed [] (bytes_of (parts_view parts.now)) result }
 {

@@ -1,6 +1,6 @@
 ghost use Rattle.std.specs.Prelude.{◌≡◌, ◌<◌, IfSome};
 ghost use Rattle.std.specs.Int.{w32, cast_unsigned, to_le_bytes};
-ghost use Rattle.vw_encode.specs.Candidate.{operand_number, operand_memory, reg_field, digit_or_zero, rm_field, base_field, index_field, sib_field, modrm_byte, opcode_byte, immediate_block};
+ghost use Rattle.vw_encode.specs.search.Candidate.{operand_number, operand_memory, reg_field, digit_or_zero, rm_field, base_field, index_field, sib_field, modrm_byte, opcode_byte, immediate_block};
 ghost use Rattle.vw_rows.specs.Layout.{IsRex};
 
 use crate::asked::{Asked, place_memory, place_number, register_number, xmm_memory, xmm_number};

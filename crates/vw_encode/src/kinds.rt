@@ -1,6 +1,6 @@
 //! The rows by kind of instruction: which rows an instruction may be spelled by, in their order.
 ghost use Rattle.std.specs.Prelude.{◌≡◌, ◌<◌, true};
-ghost use Rattle.vw_encode.specs.Kinds.{alu_number, cond_number, shift_number, unary_number, mul_div_number, bits_number, xmm_row_number, insn_number, rows_of_kind, are_numbers, kinds_agree};
+ghost use Rattle.vw_encode.specs.search.Kinds.{alu_number, cond_number, shift_number, unary_number, mul_div_number, bits_number, xmm_row_number, insn_number, rows_of_kind, are_numbers, kinds_agree};
 
 use vw_insn::{AluOp, BitsOp, Cond, Insn, MulDivOp, ShiftOp, UnaryOp, XmmRow};
 

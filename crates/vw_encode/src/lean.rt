@@ -1,5 +1,5 @@
 ghost use Rattle.std.specs.Prelude.{◌≡◌, ◌<◌, Some};
-ghost use Rattle.vw_encode.specs.Normal.{reads_w, reads_r, reads_x, reads_b, is_byte, extends_byte, reads_byte, kept, lean_bits, is_lean};
+ghost use Rattle.vw_encode.specs.search.Normal.{reads_w, reads_r, reads_x, reads_b, is_byte, extends_byte, reads_byte, read_bit, lean_bits, is_lean};
 
 use vw_insn::Width;
 use vw_rows::{Kind, Operands, Row, Sizing};
@@ -14,16 +14,16 @@ pub(crate) fn is_lean(row: Row, bits: u8) -> bool
 fn lean_bits(row: Row, bits: u8) -> u8
     ensures { result ≡ lean_bits (reads_w row.width) (reads_r row.operands) (reads_x row.operands) (reads_b row.operands) bits }
 {
-    let w = kept(reads_w(row.width), bits / 8 % 2);
-    let r = kept(reads_r(row.operands), bits / 4 % 2);
-    let x = kept(reads_x(row.operands), bits / 2 % 2);
-    let b = kept(reads_b(row.operands), bits % 2);
+    let w = read_bit(reads_w(row.width), bits / 8 % 2);
+    let r = read_bit(reads_r(row.operands), bits / 4 % 2);
+    let x = read_bit(reads_x(row.operands), bits / 2 % 2);
+    let b = read_bit(reads_b(row.operands), bits % 2);
     w * 8 + r * 4 + x * 2 + b
 }
 
-fn kept(is_read: bool, bit: u8) -> u8
+fn read_bit(is_read: bool, bit: u8) -> u8
     requires { bit < 2 }
-    ensures is { result ≡ kept is_read bit }
+    ensures is { result ≡ read_bit is_read bit }
     ensures bound { result < 2 }
 {
     if is_read { bit } else { 0 }

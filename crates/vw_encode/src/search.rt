@@ -6,15 +6,15 @@ ghost use Rattle.vw_rows.specs.Lookup.{IsIn};
 ghost use Rattle.vw_rows.specs.Parts.{Parts, rex_w};
 ghost use Rattle.vw_rows.specs.Layout.{IsRex, IsLaid, key_of, width_at, has_sib};
 ghost use Rattle.vw_rows.specs.Views.{modrm_view, optional_view, parts_view};
-ghost use Rattle.vw_encode.specs.Order.{rank_of};
-ghost use Rattle.vw_encode.specs.Found.{Made, AtMost, FirstOf, Best};
-ghost use Rattle.vw_encode.specs.Candidate.{optional_modrm};
+ghost use Rattle.vw_encode.specs.Order.{mode_of, scale_of, rank_of};
+ghost use Rattle.vw_encode.specs.search.Found.{Made, AtMost, FirstOf, Best};
+ghost use Rattle.vw_encode.specs.search.Candidate.{optional_modrm};
 ghost use Rattle.vw_rows.specs.Meaning.{built, insn_of};
-ghost use Rattle.vw_encode.specs.Asked.{asked};
-ghost use Rattle.vw_encode.specs.Normal.{Normal, IsChosen, Without, mode_of, scale_of, same_bool, address_fits, modrm_fits, is_laid, shape_asked};
+ghost use Rattle.vw_encode.specs.search.Asked.{operands_asked};
+ghost use Rattle.vw_encode.specs.search.Normal.{Normal, IsChosen, Without, same_bool, address_fits, modrm_fits, is_laid, shape_asked};
 
 use crate::asked::{Asked, asked_by};
-use crate::buffer::{Spelled, written};
+use crate::buffer::{Spelled, write_parts};
 use crate::candidate::{
     Choice, displacement_block, immediate_block, modrm_byte, opcode_byte, operand_memory, sib_field,
 };
@@ -41,7 +41,7 @@ pub(crate) fn first_spelling(insn: &Insn) -> Option<Spelled>
 
 // The first spelling by the row of the number.
 fn in_numbered(number: u16, wanted: &Asked, insn: &Insn) -> Option<Spelled>
-    requires wanted { wanted.now ≡ asked insn.now }
+    requires wanted { wanted.now ≡ operands_asked insn.now }
     ensures { (r : Row) → IsIn r rows → r.number ≡ number → MatchOption result (Without r insn.now (λ p. Unit {0})) (λ s. FirstOf s r insn.now (λ q. Unit {0}) (λ p. Unit {0})) }
 {
     match row_numbered(number) {
@@ -52,7 +52,7 @@ fn in_numbered(number: u16, wanted: &Asked, insn: &Insn) -> Option<Spelled>
 
 fn in_row(row: Row, wanted: &Asked, insn: &Insn) -> Option<Spelled>
     requires listed { IsIn row rows }
-    requires wanted { wanted.now ≡ asked insn.now }
+    requires wanted { wanted.now ≡ operands_asked insn.now }
     ensures { MatchOption result (Without row insn.now (λ p. Unit {0})) (λ s. FirstOf s row insn.now (λ q. Unit {0}) (λ p. Unit {0})) }
 {
     match row.pattern.prefixes {
@@ -72,7 +72,7 @@ fn in_row(row: Row, wanted: &Asked, insn: &Insn) -> Option<Spelled>
 // Without REX, else with the least bits of REX of those that the row reads.
 fn with_prefix(row: Row, prefix: Prefix, wanted: &Asked, insn: &Insn) -> Option<Spelled>
     requires listed { IsIn row rows }
-    requires wanted { wanted.now ≡ asked insn.now }
+    requires wanted { wanted.now ≡ operands_asked insn.now }
     ensures { MatchOption result (Without row insn.now (λ p. p.prefix ≡ prefix)) (λ s. FirstOf s row insn.now (λ q. q.prefix ≡ prefix) (λ p. p.prefix ≡ prefix)) }
 {
     if let Some(spelled) = with_rex(row, prefix, None, wanted, insn) {
@@ -88,7 +88,7 @@ fn with_prefix(row: Row, prefix: Prefix, wanted: &Asked, insn: &Insn) -> Option<
 
 fn with_bits(row: Row, prefix: Prefix, bits: u8, wanted: &Asked, insn: &Insn) -> Option<Spelled>
     requires listed { IsIn row rows }
-    requires wanted { wanted.now ≡ asked insn.now }
+    requires wanted { wanted.now ≡ operands_asked insn.now }
     requires rex { bits < 16 }
     ensures { MatchOption result (Without row insn.now (λ p. (p.prefix ≡ prefix) × (p.rex ≡ Some bits))) (λ s. FirstOf s row insn.now (λ q. (q.prefix ≡ prefix) × (q.rex ≡ Some bits)) (λ p. (p.prefix ≡ prefix) × (p.rex ≡ Some bits))) }
 {
@@ -107,7 +107,7 @@ fn with_rex(
     insn: &Insn,
 ) -> Option<Spelled>
     requires listed { IsIn row rows }
-    requires wanted { wanted.now ≡ asked insn.now }
+    requires wanted { wanted.now ≡ operands_asked insn.now }
     requires rex { IsRex rex }
     ensures { MatchOption result (Without row insn.now (λ p. (p.prefix ≡ prefix) × (p.rex ≡ rex))) (λ s. FirstOf s row insn.now (λ q. (q.prefix ≡ prefix) × (q.rex ≡ rex)) (λ p. (p.prefix ≡ prefix) × (p.rex ≡ rex))) }
 {
@@ -142,7 +142,7 @@ fn with_rex(
 // Memory: without displacement, else with one byte of it, else with four.
 fn in_memory(row: Row, w: Width, choice: Choice, wanted: &Asked, insn: &Insn) -> Option<Spelled>
     requires listed { IsIn row rows }
-    requires wanted { wanted.now ≡ asked insn.now }
+    requires wanted { wanted.now ≡ operands_asked insn.now }
     requires rex { IsRex choice.rex }
     requires scale { IfSome choice.scale (λ s. s < 4) }
     requires width { width_at row.width choice.prefix (rex_w choice.rex) ≡ Some w }
@@ -160,7 +160,7 @@ fn in_memory(row: Row, w: Width, choice: Choice, wanted: &Asked, insn: &Insn) ->
 // The one spelling by the row that is as chosen, if there is one.
 fn attempt(row: Row, w: Width, choice: Choice, wanted: &Asked, insn: &Insn) -> Option<Spelled>
     requires listed { IsIn row rows }
-    requires wanted { wanted.now ≡ asked insn.now }
+    requires wanted { wanted.now ≡ operands_asked insn.now }
     requires rex { IsRex choice.rex }
     requires mode { choice.mode < 4 }
     requires scale { IfSome choice.scale (λ s. s < 4) }
@@ -207,7 +207,7 @@ fn spelled_by(row: Row, w: Width, parts: &Parts<'_>, insn: &Insn) -> Option<Spel
     if !same_insn(&insn_of(row, w, parts), insn) {
         return None;
     }
-    let spelled = written(parts)?;
+    let spelled = write_parts(parts)?;
     Some(spelled)
 }
 

@@ -1,5 +1,5 @@
 use Rattle.std.proofs.Common.{◌≡◌, ℕ, ◌/◌, ◌==◌, Bool, true, false, cond, ◌&&◌, ◌||◌, Option, None, Some, refl, sym, ◌∙◌, ap, subst, eq-eqb}
-use Rattle.std.proofs.lemmas.Bool.{and_parts, eqb-true, false≢true}
+use Rattle.std.proofs.lemmas.Bool.{and_parts, or_left, or_right, eqb-true, false≢true}
 use Rattle.std.specs.Cmp.Derive.{both_true}
 use Rattle.vw_rows.specs.declared.patterns.Prefix.{Prefix}
 use Rattle.vw_rows.specs.declared.patterns.Prefix.TheVariants.{Plain, P66, PF2, PF3}
@@ -50,14 +50,6 @@ some_prefix f = f Plain || (f P66 || (f PF2 || f PF3))
 
 abbrev pub some_form : (Bool → Bool) → Bool
 some_form f = f true || f false
-
-or_left : (a b : Bool) → a ≡ true → (a || b) ≡ true
-or_left true b h = refl
-or_left false b h = absurd (false≢true h)
-
-or_right : (a b : Bool) → b ≡ true → (a || b) ≡ true
-or_right true b h = refl
-or_right false b h = h
 
 some_prefix-lem : (f : Prefix → Bool) (p : Prefix) → f p ≡ true → some_prefix f ≡ true
 some_prefix-lem f Plain h = or_left (f Plain) _ h

@@ -1,7 +1,7 @@
 -- Every instruction that has a spelling is one that the texts and the statements are defined of.
-use Rattle.std.proofs.Common.{◌≡◌, ◌≢◌, ◌⊎◌, ℕ, zero, suc, ◌+◌, ◌*◌, ◌%◌, ◌^◌, ◌<◌, ◌≤◌, ◌==◌, ℤ, pos, negsuc, Bool, true, false, ◌&&◌, ◌||◌, List, [], ◌∷◌, ◌++◌, length, get_or, Option, Some, None, IfSome, refl, sym, ◌∙◌, ap, subst, arith, ltb, inl, inr}
+use Rattle.std.proofs.Common.{◌≡◌, ◌≢◌, ◌⊎◌, ℕ, zero, suc, ◌+◌, ◌*◌, ◌%◌, ◌^◌, ◌<◌, ◌≤◌, ◌==◌, ℤ, pos, negsuc, Bool, true, false, ◌&&◌, ◌||◌, List, [], ◌∷◌, length, get_or, Option, Some, None, IfSome, refl, sym, ◌∙◌, ap, subst, arith, ltb, inl, inr}
 use Rattle.std.specs.Prelude.{◌≤ℤ◌}
-use Rattle.std.proofs.lemmas.Bool.{and_parts, cases_Bool, cases_lt, eqb-true, false≢true}
+use Rattle.std.proofs.lemmas.Bool.{and_parts, cases_Bool, false≢true}
 use Rattle.std.proofs.lemmas.Int.{ints}
 use Rattle.std.specs.List.{list_all}
 use Rattle.vw_insn.specs.declared.registers.Reg.TheVariants.{Rsp}
@@ -12,7 +12,8 @@ use Rattle.vw_insn.specs.declared.operands.Place.{Place}
 use Rattle.vw_insn.specs.declared.operands.Place.TheVariants as place
 use Rattle.vw_insn.specs.declared.operands.Source.TheVariants as source
 use Rattle.vw_insn.specs.declared.instruction.Insn.{Insn}
-use Rattle.vw_insn.specs.Words.{number}
+use Rattle.vw_insn.specs.Words.{number, register}
+use Rattle.vw_insn.proofs.RegisterNumbers.{number_register}
 use Rattle.vw_insn.specs.Listed.{IsIndex, IsMem, IsPlace, IsFullPlace, IsSource, IsFullSource, IsTested, IsBitNumber, IsWord, IsWide, IsNarrow, IsXmmOperand, IsListed}
 use Rattle.vw_rows.specs.declared.patterns.Prefix.{Prefix}
 use Rattle.vw_rows.specs.declared.patterns.Prefix.TheVariants.{Plain, P66, PF2, PF3}
@@ -28,11 +29,13 @@ use Rattle.vw_rows.specs.declared.forms.Row.{Row}
 use Rattle.vw_rows.specs.declared.shape.Shape.{Shape}
 use Rattle.vw_rows.specs.Rows.{rows}
 use Rattle.vw_rows.specs.Numbers.{IsBytes, signed_of, unsigned_of}
-use Rattle.vw_rows.specs.Parts.{Modrm, Parts, prefix_bytes, rex_bytes, opcode_bytes, sib_bytes, modrm_bytes, bytes_of, mode, rm, scale, index, rex_w, rex_r, rex_x, rex_b}
-use Rattle.vw_rows.specs.Layout.{without_base, variable_width, wide_width, width_at, immediate_length, IsLaid}
-use Rattle.vw_rows.specs.Shape.{register, has_rex, byte_register, register_place, base_at, index_at, memory_at, rm_place, reg_number, xmm_operand, rm_width, first_place, second_place, xmm_register, xmm_second, signed_immediate, byte_immediate}
+use Rattle.vw_rows.specs.Parts.{Modrm, Parts, bytes_of, mode, rm, scale, index, rex_w, rex_r, rex_x, rex_b}
+use Rattle.vw_rows.specs.Layout.{is_word, without_base, variable_width, wide_width, width_at, immediate_length, IsLaid}
+use Rattle.vw_rows.specs.Shape.{has_rex, byte_register, register_place, base_at, index_at, memory_at, rm_place, reg_number, xmm_operand, rm_width, first_place, second_place, xmm_register, xmm_second, signed_immediate, byte_immediate}
 use Rattle.vw_rows.specs.Meaning.{memory_in, is_given, source_or, mov_immediate, built, insn_of}
 use Rattle.vw_rows.specs.Spelling.{Spells}
+use Rattle.vw_rows.proofs.Below.{below, below_at}
+use Rattle.vw_rows.proofs.Bytes.{ModrmBytes, OptionalBytes, part_bytes}
 use Rattle.vw_rows.proofs.Uniqueness.{rows_all}
 
 -- ---- bytes of the parts
@@ -45,62 +48,29 @@ record Bytes (p : Parts) : Type 0 where
   sib : (m : Modrm) → p.modrm ≡ Some m → IsByte m.sib
   imm : (i : ℕ) → get_or p.imm i 0 < 256
 
-right_bytes : (front rest : List ℕ) → IsBytes (front ++ rest) → IsBytes rest
-right_bytes [] rest h = h
-right_bytes (b ∷ bs) rest h = right_bytes bs rest (λ i. h (suc i))
-
-left_bytes : (front rest : List ℕ) → IsBytes (front ++ rest) → IsBytes front
-left_bytes [] rest h i = omega arith
-left_bytes (b ∷ bs) rest h zero = h 0
-left_bytes (b ∷ bs) rest h (suc i) = left_bytes bs rest (λ j. h (suc j)) i
-
-sib_byte : (s : Option ℕ) (rest : List ℕ) → IsBytes (sib_bytes s ++ rest) → IsByte s
-sib_byte None rest h = tt
-sib_byte (Some b) rest h = h 0
-
-modrm_sib : (o : Option Modrm) (m : Modrm) → IsBytes (modrm_bytes o) → o ≡ Some m → IsByte m.sib
+modrm_sib : (o : Option Modrm) (m : Modrm) → OptionalBytes o → o ≡ Some m → IsByte m.sib
 modrm_sib o m h e =
-    let there : IsBytes (m.byte ∷ (sib_bytes m.sib ++ m.disp)) = subst (λ (x : Option Modrm). IsBytes (modrm_bytes x)) e h in
-    sib_byte m.sib m.disp (λ i. there (suc i))
+    let there : ModrmBytes m = subst (λ (x : Option Modrm). OptionalBytes x) e h in
+    there.sib
 
 parts_bytes : (p : Parts) → IsBytes (bytes_of p) → Bytes p
 parts_bytes p h =
-    let a = right_bytes (prefix_bytes p.prefix) (rex_bytes p.rex ++ (opcode_bytes p.map p.opcode ++ (modrm_bytes p.modrm ++ p.imm))) h in
-    let b = right_bytes (rex_bytes p.rex) (opcode_bytes p.map p.opcode ++ (modrm_bytes p.modrm ++ p.imm)) a in
-    let c = right_bytes (opcode_bytes p.map p.opcode) (modrm_bytes p.modrm ++ p.imm) b in
-    record { sib = λ m e. modrm_sib p.modrm m (left_bytes (modrm_bytes p.modrm) p.imm c) e; imm = right_bytes (modrm_bytes p.modrm) p.imm c }
+    let known = part_bytes p h in
+    record { sib = λ m e. modrm_sib p.modrm m known.fields e; imm = known.imm }
 
 -- ---- memory
 
-bit_b : (rex : Option ℕ) → rex_b rex ≤ 1
+pub bit_b : (rex : Option ℕ) → rex_b rex ≤ 1
 bit_b None = omega arith
 bit_b (Some b) = omega arith
 
-bit_x : (rex : Option ℕ) → rex_x rex ≤ 1
+pub bit_x : (rex : Option ℕ) → rex_x rex ≤ 1
 bit_x None = omega arith
 bit_x (Some b) = omega arith
 
-bit_r : (rex : Option ℕ) → rex_r rex ≤ 1
+pub bit_r : (rex : Option ℕ) → rex_r rex ≤ 1
 bit_r None = omega arith
 bit_r (Some b) = omega arith
-
--- a test of the numbers below n
-abbrev below : (ℕ → Bool) → ℕ → Bool
-below f zero = true
-below f (suc n) = f n && below f n
-
-below_at : (f : ℕ → Bool) (n : ℕ) → below f n ≡ true → (i : ℕ) → i < n → f i ≡ true
-below_at f zero h i lt = absurd (omega arith)
-below_at f (suc n) h i lt = elim (cases_lt i n) [
-  | inl under ↦ below_at f n (and_parts (f n) (below f n) h).1 i under
-  | inr over ↦ (let e : n ≡ i = omega arith in subst (λ (k : ℕ). f k ≡ true) e (and_parts (f n) (below f n) h).0)
-]
-
-numbers_again : below (λ n. number (register n) == n) 16 ≡ true
-numbers_again = refl
-
-number_register : (n : ℕ) → n < 16 → number (register n) ≡ n
-number_register n lt = eqb-true (number (register n)) n (below_at (λ k. number (register k) == k) 16 numbers_again n lt)
 
 not_rsp : (n : ℕ) → n < 16 → (n == 4) ≡ false → register n ≢ Rsp
 not_rsp n lt miss e =
@@ -259,16 +229,6 @@ source_full false p n h = h
 
 -- ---- widths
 
-abbrev is_word : Sizing → Bool
-is_word size.None = false
-is_word size.B = false
-is_word size.V = true
-is_word size.V32Or64 = true
-is_word size.Q = true
-is_word size.OnlyW = true
-is_word size.Narrow = false
-is_word size.Wide = false
-
 abbrev is_above_16 : Sizing → Bool
 is_above_16 size.None = false
 is_above_16 size.B = false
@@ -328,6 +288,10 @@ sizing_word size.OnlyW p false h = tt
 sizing_word size.Narrow p b h = absurd (false≢true h)
 sizing_word size.Wide p b h = absurd (false≢true h)
 
+-- of an instruction of the row
+pub laid_word : (p : Parts) (row : Row) (w : Width) → IsLaid p row w → is_word row.width ≡ true → IsWord w
+laid_word p row w laid h = subst (λ (o : Option Width). IfSome o IsWord) laid.width (sizing_word row.width p.prefix (rex_w p.rex) h)
+
 -- ---- immediates
 
 signed_byte : (bytes : List ℕ) → length bytes ≡ 1 → get_or bytes 0 0 < 256 → (negsuc 127 ≤ℤ signed_of bytes) × (signed_of bytes ≤ℤ pos 127)
@@ -336,26 +300,12 @@ signed_byte (a ∷ []) len h = (omega (arith, ints), omega (arith, ints))
 signed_byte (a ∷ b ∷ bs) len h = absurd (omega arith)
 
 abbrev is_eg : Operands → Bool
-is_eg ops.None = false
 is_eg ops.EG = true
-is_eg ops.GE = false
-is_eg ops.Accumulator = false
-is_eg ops.E = false
-is_eg ops.OpcodeReg = false
-is_eg ops.WithoutRexB = false
-is_eg ops.EndsInFa = false
-is_eg ops.Xmm = false
+is_eg _ = false
 
 eg_is : (o : Operands) → is_eg o ≡ true → o ≡ ops.EG
-eg_is ops.None h = absurd (false≢true h)
 eg_is ops.EG h = refl
-eg_is ops.GE h = absurd (false≢true h)
-eg_is ops.Accumulator h = absurd (false≢true h)
-eg_is ops.E h = absurd (false≢true h)
-eg_is ops.OpcodeReg h = absurd (false≢true h)
-eg_is ops.WithoutRexB h = absurd (false≢true h)
-eg_is ops.EndsInFa h = absurd (false≢true h)
-eg_is ops.Xmm h = absurd (false≢true h)
+eg_is _ h = absurd (false≢true h)
 
 byte_tested : (b : Bool) (n : ℕ) → IsTested (source.Place (byte_register b n))
 byte_tested true n = tt
@@ -510,9 +460,8 @@ kind_listed (kind.Xmm row) o i s w p h word wide len b = (xmm_register_listed o 
 laid_listed : (p : Parts) (row : Row) (w : Width) → IsLaid p row w → IsBytes (bytes_of p) → IsListed (insn_of row w p)
 laid_listed p row w laid bytes =
     let fit : row_fits row ≡ true = rows_all row_fits all_fit row laid.listed in
-    let word : is_word row.width ≡ true → IsWord w = λ h. subst (λ (o : Option Width). IfSome o IsWord) laid.width (sizing_word row.width p.prefix (rex_w p.rex) h) in
     let wide : is_above_16 row.width ≡ true → IsWide w = λ h. subst (λ (o : Option Width). IfSome o IsWide) laid.width (sizing_wide row.width p.prefix (rex_w p.rex) h) in
-    kind_listed row.kind row.operands row.immediate row.width w p fit word wide laid.imm (parts_bytes p bytes)
+    kind_listed row.kind row.operands row.immediate row.width w p fit (laid_word p row w laid) wide laid.imm (parts_bytes p bytes)
 
 pub spelled_listed : (bytes : List ℕ) (insn : Insn) → Spells bytes insn → IsListed insn
 spelled_listed bytes insn s = subst (λ (x : Insn). IsListed x) s.meant (laid_listed s.parts s.row s.width s.laid (subst (λ (x : List ℕ). IsBytes x) s.spelled s.are_bytes))

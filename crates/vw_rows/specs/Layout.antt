@@ -74,6 +74,17 @@ width_at size.OnlyW prefix w = if w then Some W64 else None
 width_at size.Narrow prefix w = if w then None else Some W32
 width_at size.Wide prefix w = if w then Some W64 else Some W32
 
+-- which widths are never 8 bits
+abbrev pub is_word : Sizing → Bool
+is_word size.None = false
+is_word size.B = false
+is_word size.V = true
+is_word size.V32Or64 = true
+is_word size.Q = true
+is_word size.OnlyW = true
+is_word size.Narrow = false
+is_word size.Wide = false
+
 -- ModRM is followed by a SIB where it is memory with r/m 4 (SDM volume 2, table 2-2)
 abbrev pub takes_sib : ℕ → Bool
 takes_sib byte = not (mode byte == 3) && (rm byte == 4)

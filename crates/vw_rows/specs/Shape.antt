@@ -2,7 +2,7 @@
 use Rattle.std.specs.Prelude.{ℕ, ◌+◌, ◌*◌, ◌-◌, ◌^◌, ◌%◌, ◌==◌, Bool, true, false, if◌then◌else◌, nat_lt, ℤ, pos, Option, None, Some, List, [], ◌∷◌}
 use Rattle.std.proofs.Common.{get_or}
 use Rattle.vw_insn.specs.declared.registers.Reg.{Reg}
-use Rattle.vw_insn.specs.declared.registers.Reg.TheVariants.{Rax, Rcx, Rdx, Rbx, Rsp, Rbp, Rsi, Rdi, R8, R9, R10, R11, R12, R13, R14, R15}
+use Rattle.vw_insn.specs.declared.registers.Reg.TheVariants.{Rax}
 use Rattle.vw_insn.specs.declared.registers.HighReg.{HighReg}
 use Rattle.vw_insn.specs.declared.registers.HighReg.TheVariants.{Ah, Ch, Dh, Bh}
 use Rattle.vw_insn.specs.declared.registers.Width.{Width}
@@ -14,6 +14,7 @@ use Rattle.vw_insn.specs.declared.operands.Place.{Place}
 use Rattle.vw_insn.specs.declared.operands.Place.TheVariants as place
 use Rattle.vw_insn.specs.declared.operands.XmmOperand.{XmmOperand}
 use Rattle.vw_insn.specs.declared.operands.XmmOperand.TheVariants as xmm
+use Rattle.vw_insn.specs.Words.{register}
 use Rattle.vw_rows.specs.declared.forms.Kind.{Kind}
 use Rattle.vw_rows.specs.declared.forms.Kind.TheVariants as kind
 use Rattle.vw_rows.specs.declared.forms.Operands.{Operands}
@@ -26,10 +27,6 @@ use Rattle.vw_rows.specs.Numbers.{signed_of, byte_of, unsigned_of}
 use Rattle.vw_rows.specs.Parts.{Modrm, Parts, mode, reg, rm, scale, index, rex_r, rex_x, rex_b}
 use Rattle.vw_rows.specs.Parts as parts
 use Rattle.vw_rows.specs.Layout.{without_base}
-
--- the register of a number from 0 to 15 (SDM volume 2, table 3-1)
-abbrev pub register : ℕ → Reg
-register n = get_or (Rax ∷ Rcx ∷ Rdx ∷ Rbx ∷ Rsp ∷ Rbp ∷ Rsi ∷ Rdi ∷ R8 ∷ R9 ∷ R10 ∷ R11 ∷ R12 ∷ R13 ∷ R14 ∷ R15 ∷ []) n R15
 
 -- the byte register of a number from 4 to 7 where there is no REX (SDM volume 2, table 3-1)
 abbrev pub high_register : ℕ → HighReg

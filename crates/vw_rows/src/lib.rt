@@ -21,6 +21,7 @@ pub use layout::{
 };
 pub use lookup::{is_match, one_row_per_key, row_numbered, row_of};
 pub use meaning::{built, insn_of};
+pub use numbers::as_bytes;
 pub use parts::{Modrm, Parts, rex_w};
 pub use patterns::{Form, Key, Map, Pattern, Prefix, Prefixes};
 pub use shape::{Shape, shape_of};

@@ -1,5 +1,5 @@
 ghost use Rattle.std.specs.Prelude.{◌≡◌};
-ghost use Rattle.vw_rows.specs.Numbers.{signed_of, byte_of, unsigned_of};
+ghost use Rattle.vw_rows.specs.Numbers.{IsBytes, signed_of, byte_of, unsigned_of};
 
 /// The number in two's complement of one, two or four bytes, the least significant first (SDM volume 2,
 /// 2.2.1.3 and 2.2.1.5): a displacement or an immediate, before it is sign-extended to the operation's
@@ -34,4 +34,12 @@ pub fn unsigned_of(bytes: &[u8]) -> u64
         [a, b, c, d, e, f, g, h] => u64::from_le_bytes([*a, *b, *c, *d, *e, *f, *g, *h]),
         _ => 0,
     }
+}
+
+/// The same bytes, of which it is known that each is below 256: what a `u8` holds.
+pub fn as_bytes(bytes: &[u8]) -> &[u8]
+    ensures same { result.now ≡ bytes.now }
+    ensures bytes { IsBytes result.now }
+{
+    bytes
 }

@@ -1,7 +1,7 @@
 ghost use Rattle.std.specs.Prelude.{◌≡◌, ◌+◌, ◌*◌, ◌^◌, ◌<◌, ◌≤◌};
 ghost use Rattle.vw_rows.specs.Parts.{rex_b};
 ghost use Rattle.vw_rows.specs.Views.{modrm_view, optional_view, parts_view};
-ghost use Rattle.vw_rows.specs.Shape.{register, high_register, byte_register, has_rex, register_place, base_at, index_at, memory_at, rm_place, reg_number, xmm_operand, rm_width, first_place, second_place, xmm_register, xmm_second, signed_immediate, byte_immediate, shape_of};
+ghost use Rattle.vw_rows.specs.Shape.{high_register, byte_register, has_rex, register_place, base_at, index_at, memory_at, rm_place, reg_number, xmm_operand, rm_width, first_place, second_place, xmm_register, xmm_second, signed_immediate, byte_immediate, shape_of};
 
 use crate::layout::without_base;
 use crate::numbers::{byte_of, signed_of, unsigned_of};
@@ -9,8 +9,8 @@ use crate::parts::{Modrm, Parts, rex_b, rex_r, rex_x};
 use crate::{Immediate, Kind, Operands, Row};
 use vw_insn::{Base, HighReg, Mem, Place, Reg, Width, XmmOperand};
 
-/// The operands of an instruction as its bytes name them, whichever instruction it is. A field that the
-/// instruction's row does not have holds `Rax` or 0.
+/// The operands of an instruction as its bytes name them, whichever instruction it is. A field that
+/// the instruction's row does not have holds `Rax` or 0.
 #[derive(Clone, Copy, Debug, PartialEq, Eq)]
 pub struct Shape {
     /// The width of the operation, 32 bits where the row names none.
@@ -47,30 +47,6 @@ pub fn shape_of(row: Row, w: Width, parts: &Parts<'_>) -> Shape
     }
 }
 
-// The register of a number, 0 to 15 (SDM volume 2, table 3-1).
-fn register(n: u8) -> Reg
-    ensures { result ≡ register n }
-{
-    match n {
-        0 => Reg::Rax,
-        1 => Reg::Rcx,
-        2 => Reg::Rdx,
-        3 => Reg::Rbx,
-        4 => Reg::Rsp,
-        5 => Reg::Rbp,
-        6 => Reg::Rsi,
-        7 => Reg::Rdi,
-        8 => Reg::R8,
-        9 => Reg::R9,
-        10 => Reg::R10,
-        11 => Reg::R11,
-        12 => Reg::R12,
-        13 => Reg::R13,
-        14 => Reg::R14,
-        _ => Reg::R15,
-    }
-}
-
 // The byte register of a number, 4 to 7, where there is no REX.
 fn high_register(n: u8) -> HighReg
     requires { 4 ≤ n }
@@ -85,10 +61,11 @@ fn high_register(n: u8) -> HighReg
 }
 
 fn byte_register(has_rex: bool, n: u8) -> Place
+    requires { n < 16 }
     ensures { result ≡ byte_register has_rex n }
 {
     if has_rex || n < 4 {
-        Place::Reg(register(n))
+        Place::Reg(Reg::from_number(n))
     } else {
         Place::High(high_register(n))
     }
@@ -102,18 +79,20 @@ fn has_rex(rex: Option<u8>) -> bool
 
 // The register of a number at a width.
 fn register_place(w: Width, rex: Option<u8>, n: u8) -> Place
+    requires { n < 16 }
     ensures { result ≡ register_place w rex n }
 {
     match w {
         Width::W8 => byte_register(has_rex(rex), n),
-        Width::W16 | Width::W32 | Width::W64 => Place::Reg(register(n)),
+        Width::W16 | Width::W32 | Width::W64 => Place::Reg(Reg::from_number(n)),
     }
 }
 
 // The number of the register in the r/m field or in the base of the SIB.
 fn low_number(rex: Option<u8>, field: u8) -> u8
     requires { field < 8 }
-    ensures { result ≡ field + 8 * rex_b rex }
+    ensures number { result ≡ field + 8 * rex_b rex }
+    ensures below { result < 16 }
 {
     field + 8 * rex_b(rex)
 }
@@ -126,14 +105,14 @@ fn base_at(rex: Option<u8>, byte: u8, sib: Option<u8>) -> Base
             if without_base(byte, None) {
                 Base::Rip
             } else {
-                Base::Reg(register(low_number(rex, byte % 8)))
+                Base::Reg(Reg::from_number(low_number(rex, byte % 8)))
             }
         }
         Some(sib) => {
             if without_base(byte, Some(sib)) {
                 Base::None
             } else {
-                Base::Reg(register(low_number(rex, sib % 8)))
+                Base::Reg(Reg::from_number(low_number(rex, sib % 8)))
             }
         }
     }
@@ -149,7 +128,7 @@ fn index_at(rex: Option<u8>, sib: Option<u8>) -> Option<(Reg, u8)>
             if number == 4 {
                 None
             } else {
-                Some((register(number), scale_of(sib / 64)))
+                Some((Reg::from_number(number), scale_of(sib / 64)))
             }
         }
     }
@@ -196,7 +175,8 @@ fn rm_place(w: Width, parts: &Parts<'_>) -> Place
 
 // The number of the register in ModRM's reg field.
 fn reg_number(parts: &Parts<'_>) -> u8
-    ensures { result ≡ reg_number parts.now.rex (optional_view parts.now.modrm) }
+    ensures number { result ≡ reg_number parts.now.rex (optional_view parts.now.modrm) }
+    ensures below { result < 16 }
 {
     match parts.modrm {
         None => 0,

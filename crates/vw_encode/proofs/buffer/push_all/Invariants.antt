@@ -1,5 +1,5 @@
 use Rattle.std.proofs.Common.{ℕ, List, ◌++◌, take}
-use Rattle.vw_encode.specs.Buffer.{Holds}
+use Rattle.vw_encode.specs.search.Buffer.{Holds}
 use Rattle.vw_encode.proofs.buffer.push_all.Given as goal
 
 abbrev pub invariant-loop-byte : goal.invariant-loop-byte

@@ -1,7 +1,7 @@
 use Rattle.std.proofs.Common.{◌==◌, take, filter}
 use Rattle.vw_rows.specs.declared.forms.Row.{Row}
 use Rattle.vw_rows.specs.Rows.{rows}
-use Rattle.vw_encode.specs.Kinds.{kind_number, insn_number}
+use Rattle.vw_encode.specs.search.Kinds.{kind_number, insn_number}
 use Rattle.vw_encode.proofs.Rows.{Passed}
 use Rattle.vw_encode.proofs.search.first_spelling.Given as goal
 

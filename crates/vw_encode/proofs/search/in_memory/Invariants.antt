@@ -1,5 +1,6 @@
 use Rattle.std.proofs.Common.{◌≡◌, ◌<◌}
-use Rattle.vw_encode.specs.Normal.{Without, mode_of, scale_of}
+use Rattle.vw_encode.specs.Order.{mode_of, scale_of}
+use Rattle.vw_encode.specs.search.Normal.{Without}
 use Rattle.vw_encode.proofs.search.in_memory.Given as goal
 
 abbrev pub invariant-loop-mode : goal.invariant-loop-mode

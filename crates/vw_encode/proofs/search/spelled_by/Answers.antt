@@ -1,7 +1,7 @@
 use Rattle.std.proofs.Common.{◌≡◌, true, sym, ◌∙◌, rules}
 use Rattle.vw_rows.specs.Views.{parts_view}
 use Rattle.vw_rows.specs.Meaning.{insn_of}
-use Rattle.vw_encode.specs.Normal.{is_laid}
+use Rattle.vw_encode.specs.search.Normal.{is_laid}
 use Rattle.vw_encode.proofs.Laid.{laid_of, has_room}
 use Rattle.vw_encode.proofs.search.spelled_by.Goals as goal
 

@@ -1,5 +1,5 @@
 use Rattle.std.proofs.Common.{◌≡◌, ◌<◌, IfSome}
-use Rattle.vw_encode.specs.Normal.{Without}
+use Rattle.vw_encode.specs.search.Normal.{Without}
 use Rattle.vw_encode.proofs.search.with_prefix.Given as goal
 
 abbrev pub invariant-loop-bits : goal.invariant-loop-bits

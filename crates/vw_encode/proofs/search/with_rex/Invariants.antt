@@ -1,5 +1,6 @@
 use Rattle.std.proofs.Common.{◌≡◌, ◌<◌, IfSome}
-use Rattle.vw_encode.specs.Normal.{Without, scale_of}
+use Rattle.vw_encode.specs.Order.{scale_of}
+use Rattle.vw_encode.specs.search.Normal.{Without}
 use Rattle.vw_encode.proofs.search.with_rex.Given as goal
 
 abbrev pub invariant-loop-scale : goal.invariant-loop-scale

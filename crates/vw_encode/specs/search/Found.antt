@@ -8,12 +8,12 @@ use Rattle.vw_rows.specs.Layout.{IsLaid}
 use Rattle.vw_rows.specs.Meaning.{insn_of}
 use Rattle.vw_encode.specs.declared.buffer.Spelled.{Spelled}
 use Rattle.vw_encode.specs.declared.candidate.Choice.{Choice}
-use Rattle.vw_encode.specs.Buffer.{Holds}
+use Rattle.vw_encode.specs.search.Buffer.{Holds}
 use Rattle.vw_rows.specs.Rows.{rows}
 use Rattle.vw_rows.specs.Lookup.{IsIn}
-use Rattle.vw_encode.specs.Normal.{Normal, Without, mode_of, scale_of}
-use Rattle.vw_encode.specs.Kinds.{kind_number, insn_number}
-use Rattle.vw_encode.specs.Order.{rank_of, mode_rank, PartsBefore}
+use Rattle.vw_encode.specs.search.Normal.{Normal, Without}
+use Rattle.vw_encode.specs.search.Kinds.{kind_number, insn_number}
+use Rattle.vw_encode.specs.Order.{mode_of, scale_of, rank_of, mode_rank, PartsBefore}
 
 -- the buffer holds the parts, which are the instruction by the row
 pub record Made (s : Spelled) (p : Parts) (row : Row) (w : Width) (insn : Insn) : Type 0 where

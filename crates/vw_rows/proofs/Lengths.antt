@@ -1,5 +1,6 @@
 -- How long an instruction can be.
-use Rattle.std.proofs.Common.{◌≡◌, ℕ, ◌+◌, ◌≤◌, ◌==◌, Bool, true, false, cond, length, ◌++◌, Option, None, Some, refl, subst, leb, arith}
+use Rattle.std.proofs.Common.{◌≡◌, ℕ, ◌+◌, ◌≤◌, ◌==◌, Bool, true, false, cond, length, ◌++◌}
+use Rattle.std.proofs.Common.{Option, None, Some, refl, subst, leb, arith}
 use Rattle.std.proofs.lemmas.Bool.{leb-true}
 use Rattle.std.proofs.lemmas.List.{length-append}
 use Rattle.std.specs.List.{list_all}
@@ -14,7 +15,8 @@ use Rattle.vw_rows.specs.declared.forms.Immediate.TheVariants as imm
 use Rattle.vw_rows.specs.declared.forms.Row.{Row}
 use Rattle.vw_rows.specs.Rows.{rows}
 use Rattle.vw_rows.specs.Lookup.{IsIn}
-use Rattle.vw_rows.specs.Parts.{Modrm, Parts, prefix_bytes, rex_bytes, opcode_bytes, sib_bytes, modrm_bytes, bytes_of, mode}
+use Rattle.vw_rows.specs.Parts.{Modrm, Parts, bytes_of, mode}
+use Rattle.vw_rows.specs.Parts.{prefix_bytes, rex_bytes, opcode_bytes, sib_bytes, modrm_bytes}
 use Rattle.vw_rows.specs.Layout.{key_of, has_modrm, IsModrm, without_base, immediate_length, IsLaid}
 use Rattle.vw_rows.proofs.Matching.{tests-of, same_map-≡}
 use Rattle.vw_rows.proofs.Uniqueness.{rows_all}
@@ -36,7 +38,8 @@ immediate_bound imm.Cl = 0
 immediate_bound imm.Iv = 8
 immediate_bound imm.OpcodeByte = 1
 
-immediate_within : (i : Immediate) (w : Width) → leb (immediate_length i w) (immediate_bound i) ≡ true
+immediate_within :
+    (i : Immediate) (w : Width) → leb (immediate_length i w) (immediate_bound i) ≡ true
 immediate_within imm.None w = refl
 immediate_within imm.Ib w = refl
 immediate_within imm.Iz W8 = refl
@@ -60,16 +63,23 @@ modrm_size true = 6
 modrm_size false = 0
 
 abbrev is_short : Row → Bool
-is_short r = leb (opcode_size r.pattern.map + modrm_size (has_modrm r.operands) + immediate_bound r.immediate) 13
+is_short r =
+    leb
+    (opcode_size r.pattern.map + modrm_size (has_modrm r.operands) + immediate_bound r.immediate) 13
 
 all_short : list_all is_short rows ≡ true
 unfolding rows
 all_short = refl
 
-row_short : (r : Row) → IsIn r rows → (w : Width) → opcode_size r.pattern.map + modrm_size (has_modrm r.operands) + immediate_length r.immediate w ≤ 13
+row_short :
+    (r : Row) → IsIn r rows → (w : Width)
+    → opcode_size r.pattern.map + modrm_size (has_modrm r.operands) + immediate_length r.immediate w ≤ 13
 row_short r i w =
-    let short : opcode_size r.pattern.map + modrm_size (has_modrm r.operands) + immediate_bound r.immediate ≤ 13 = leb-true _ _ (rows_all is_short all_short r i) in
-    let imm : immediate_length r.immediate w ≤ immediate_bound r.immediate = leb-true _ _ (immediate_within r.immediate w) in
+    let short :
+    opcode_size r.pattern.map + modrm_size (has_modrm r.operands) + immediate_bound r.immediate ≤ 13 =
+    leb-true _ _ (rows_all is_short all_short r i) in
+    let imm : immediate_length r.immediate w ≤ immediate_bound r.immediate =
+    leb-true _ _ (immediate_within r.immediate w) in
     omega arith
 
 prefix_length : (p : Prefix) → length (prefix_bytes p) ≤ 1
@@ -102,7 +112,8 @@ four_at_most false true c = omega arith
 four_at_most false false true = omega arith
 four_at_most false false false = omega arith
 
-modrm_length : (is : Bool) (m : Option Modrm) → IsModrm is m → length (modrm_bytes m) ≤ modrm_size is
+modrm_length :
+    (is : Bool) (m : Option Modrm) → IsModrm is m → length (modrm_bytes m) ≤ modrm_size is
 modrm_length false None laid = omega arith
 modrm_length false (Some m) laid = absurd laid
 modrm_length true None laid = absurd laid
@@ -112,19 +123,25 @@ modrm_length true (Some m) laid =
     let sib = sib_length m.sib in
     omega (arith, length-append (sib_bytes m.sib) m.disp)
 
-pub spelled_length : (p : Parts) (row : Row) (w : Width) → IsLaid p row w → (1 ≤ length (bytes_of p)) × (length (bytes_of p) ≤ 15)
+pub spelled_length :
+    (p : Parts) (row : Row) (w : Width) → IsLaid p row w
+    → (1 ≤ length (bytes_of p)) × (length (bytes_of p) ≤ 15)
 spelled_length p row w laid =
     let t = tests-of row (key_of p) laid.found in
     let map : row.pattern.map ≡ p.map = same_map-≡ row.pattern.map p.map t.map in
-    let short : opcode_size p.map + modrm_size (has_modrm row.operands) + immediate_length row.immediate w ≤ 13 = subst (λ (m : Map). opcode_size m + modrm_size (has_modrm row.operands) + immediate_length row.immediate w ≤ 13) map (row_short row laid.listed w) in
+    let size : Map → ℕ =
+    λ m. opcode_size m + modrm_size (has_modrm row.operands) + immediate_length row.immediate w in
+    let short : size p.map ≤ 13 = subst (λ (m : Map). size m ≤ 13) map (row_short row laid.listed w) in
     let pl = prefix_length p.prefix in
     let rl = rex_length p.rex in
     let ol = opcode_length p.map p.opcode in
     let on = opcode_not_empty p.map in
     let ml = modrm_length (has_modrm row.operands) p.modrm laid.modrm in
     let il = laid.imm in
-    let a = length-append (prefix_bytes p.prefix) (rex_bytes p.rex ++ (opcode_bytes p.map p.opcode ++ (modrm_bytes p.modrm ++ p.imm))) in
-    let b = length-append (rex_bytes p.rex) (opcode_bytes p.map p.opcode ++ (modrm_bytes p.modrm ++ p.imm)) in
-    let c = length-append (opcode_bytes p.map p.opcode) (modrm_bytes p.modrm ++ p.imm) in
+    let operands = modrm_bytes p.modrm ++ p.imm in
+    let named = opcode_bytes p.map p.opcode ++ operands in
+    let a = length-append (prefix_bytes p.prefix) (rex_bytes p.rex ++ named) in
+    let b = length-append (rex_bytes p.rex) named in
+    let c = length-append (opcode_bytes p.map p.opcode) operands in
     let d = length-append (modrm_bytes p.modrm) p.imm in
     (omega arith, omega arith)

@@ -46,38 +46,38 @@ abbrev pub count_in : Count → ℕ
 count_in count.Cl = 0
 count_in (count.Imm n) = n
 
-abbrev pub asked : Insn → Asked
-asked (insn.Alu op w dst src) = places dst (place_in src) (signed_in src)
-asked (insn.Push src) = places (place_in src) (place.Reg Rax) (signed_in src)
-asked (insn.Pop dst) = places (place.Reg dst) (place.Reg Rax) (pos 0)
-asked (insn.Extend signed from to dst src) = places (place.Reg dst) src (pos 0)
-asked (insn.Imul w dst src n) = places (place.Reg dst) src (signed_or_none n)
-asked (insn.Jcc c rel) = places (place.Reg Rax) (place.Reg Rax) rel
-asked (insn.Jump rel) = places (place.Reg Rax) (place.Reg Rax) rel
-asked (insn.Call rel) = places (place.Reg Rax) (place.Reg Rax) rel
-asked insn.Ret = places (place.Reg Rax) (place.Reg Rax) (pos 0)
-asked insn.Leave = places (place.Reg Rax) (place.Reg Rax) (pos 0)
-asked (insn.CallInd src) = places src (place.Reg Rax) (pos 0)
-asked (insn.JumpInd src) = places src (place.Reg Rax) (pos 0)
-asked (insn.Test w a b) = places a (place_in b) (signed_in b)
-asked (insn.Xchg w a b) = places (place.Reg a) (place.Reg b) (pos 0)
-asked (insn.Mov w dst src) = places dst (place_in src) (signed_in src)
-asked (insn.MovImm64 dst n) = with_word dst n
-asked (insn.Lea w dst mem) = places (place.Reg dst) (place.Mem mem) (pos 0)
-asked insn.Nop = places (place.Reg Rax) (place.Reg Rax) (pos 0)
-asked (insn.Widen w) = places (place.Reg Rax) (place.Reg Rax) (pos 0)
-asked (insn.SignA w) = places (place.Reg Rax) (place.Reg Rax) (pos 0)
-asked (insn.Shift op w dst by) = with_byte dst (count_in by)
-asked (insn.Unary op w dst) = places dst (place.Reg Rax) (pos 0)
-asked (insn.MulDiv op w src) = places src (place.Reg Rax) (pos 0)
-asked insn.Ud2 = places (place.Reg Rax) (place.Reg Rax) (pos 0)
-asked (insn.Cmov c w dst src) = places (place.Reg dst) src (pos 0)
-asked (insn.Set c dst) = places dst (place.Reg Rax) (pos 0)
-asked (insn.Bits op w dst src) = places (place.Reg dst) src (pos 0)
-asked (insn.Bt w a bit) = places (place.Reg a) (place_in bit) (signed_in bit)
-asked (insn.Bswap w dst) = places (place.Reg dst) (place.Reg Rax) (pos 0)
-asked insn.Endbr = places (place.Reg Rax) (place.Reg Rax) (pos 0)
-asked (insn.Xmm row wide r operand n) = on_xmm r operand n
+abbrev pub operands_asked : Insn → Asked
+operands_asked (insn.Alu op w dst src) = places dst (place_in src) (signed_in src)
+operands_asked (insn.Push src) = places (place_in src) (place.Reg Rax) (signed_in src)
+operands_asked (insn.Pop dst) = places (place.Reg dst) (place.Reg Rax) (pos 0)
+operands_asked (insn.Extend signed from to dst src) = places (place.Reg dst) src (pos 0)
+operands_asked (insn.Imul w dst src n) = places (place.Reg dst) src (signed_or_none n)
+operands_asked (insn.Jcc c rel) = places (place.Reg Rax) (place.Reg Rax) rel
+operands_asked (insn.Jump rel) = places (place.Reg Rax) (place.Reg Rax) rel
+operands_asked (insn.Call rel) = places (place.Reg Rax) (place.Reg Rax) rel
+operands_asked insn.Ret = places (place.Reg Rax) (place.Reg Rax) (pos 0)
+operands_asked insn.Leave = places (place.Reg Rax) (place.Reg Rax) (pos 0)
+operands_asked (insn.CallInd src) = places src (place.Reg Rax) (pos 0)
+operands_asked (insn.JumpInd src) = places src (place.Reg Rax) (pos 0)
+operands_asked (insn.Test w a b) = places a (place_in b) (signed_in b)
+operands_asked (insn.Xchg w a b) = places (place.Reg a) (place.Reg b) (pos 0)
+operands_asked (insn.Mov w dst src) = places dst (place_in src) (signed_in src)
+operands_asked (insn.MovImm64 dst n) = with_word dst n
+operands_asked (insn.Lea w dst mem) = places (place.Reg dst) (place.Mem mem) (pos 0)
+operands_asked insn.Nop = places (place.Reg Rax) (place.Reg Rax) (pos 0)
+operands_asked (insn.Widen w) = places (place.Reg Rax) (place.Reg Rax) (pos 0)
+operands_asked (insn.SignA w) = places (place.Reg Rax) (place.Reg Rax) (pos 0)
+operands_asked (insn.Shift op w dst by) = with_byte dst (count_in by)
+operands_asked (insn.Unary op w dst) = places dst (place.Reg Rax) (pos 0)
+operands_asked (insn.MulDiv op w src) = places src (place.Reg Rax) (pos 0)
+operands_asked insn.Ud2 = places (place.Reg Rax) (place.Reg Rax) (pos 0)
+operands_asked (insn.Cmov c w dst src) = places (place.Reg dst) src (pos 0)
+operands_asked (insn.Set c dst) = places dst (place.Reg Rax) (pos 0)
+operands_asked (insn.Bits op w dst src) = places (place.Reg dst) src (pos 0)
+operands_asked (insn.Bt w a bit) = places (place.Reg a) (place_in bit) (signed_in bit)
+operands_asked (insn.Bswap w dst) = places (place.Reg dst) (place.Reg Rax) (pos 0)
+operands_asked insn.Endbr = places (place.Reg Rax) (place.Reg Rax) (pos 0)
+operands_asked (insn.Xmm row wide r operand n) = on_xmm r operand n
 
 -- the number by which a field names a register, 0 for memory (SDM volume 2, table 3-1)
 abbrev pub place_number : Place → ℕ

@@ -1,8 +1,8 @@
 use Rattle.std.proofs.Common.{[], ◌++◌, refl, append_assoc}
 use Rattle.vw_rows.specs.Parts.{prefix_bytes, rex_bytes, opcode_bytes, modrm_bytes, bytes_of}
 use Rattle.vw_rows.specs.Views.{parts_view}
-use Rattle.vw_encode.proofs.Buffers.{joined, cut, empty}
-use Rattle.vw_encode.proofs.buffer.written.Goals as goal
+use Rattle.vw_encode.proofs.Buffers.{pushed_onto_nothing, cut, empty}
+use Rattle.vw_encode.proofs.buffer.write_parts.Goals as goal
 
 pub returns-in_err-with_prefix : goal.returns-in_err-with_prefix
 returns-in_err-with_prefix c =
@@ -37,4 +37,4 @@ returns c =
     let two = c.in_ok-with_rex.ensures _ one in
     let three = c.in_ok-with_opcode.ensures _ two in
     let four = c.in_ok-with_modrm.ensures _ three in
-    joined (((prefix_bytes p.prefix ++ rex_bytes p.rex) ++ opcode_bytes p.map p.opcode) ++ modrm_bytes p.modrm) p.imm (bytes_of p) c.push_all.result (simp append_assoc) (c.push_all.ensures _ four)
+    pushed_onto_nothing (((prefix_bytes p.prefix ++ rex_bytes p.rex) ++ opcode_bytes p.map p.opcode) ++ modrm_bytes p.modrm) p.imm (bytes_of p) c.push_all.result (simp append_assoc) (c.push_all.ensures _ four)

@@ -18,7 +18,7 @@ use Rattle.vw_rows.specs.Parts.{Modrm, Parts}
 use Rattle.vw_rows.specs.Layout.{has_modrm, displacement_length, immediate_length}
 use Rattle.vw_encode.specs.declared.asked.Asked.{Asked}
 use Rattle.vw_encode.specs.declared.candidate.Choice.{Choice}
-use Rattle.vw_encode.specs.Asked.{place_number, xmm_number, place_memory, xmm_memory}
+use Rattle.vw_encode.specs.search.Asked.{place_number, xmm_number, place_memory, xmm_memory}
 
 abbrev pub operand_number : Operands → Asked → ℕ
 operand_number ops.None a = 0

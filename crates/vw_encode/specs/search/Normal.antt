@@ -17,12 +17,13 @@ use Rattle.vw_rows.specs.declared.forms.Immediate.TheVariants as imm
 use Rattle.vw_rows.specs.declared.forms.Row.{Row}
 use Rattle.vw_rows.specs.declared.shape.Shape.{Shape}
 use Rattle.vw_rows.specs.Numbers.{IsBytes}
-use Rattle.vw_rows.specs.Parts.{Modrm, Parts, bytes_of, mode, scale}
-use Rattle.vw_rows.specs.Layout.{key_of, digit_of, has_modrm, takes_sib, displacement_length, has_sib, immediate_length, has_fixed, IsLaid}
+use Rattle.vw_rows.specs.Parts.{Modrm, Parts, bytes_of}
+use Rattle.vw_rows.specs.Layout.{is_word, key_of, digit_of, has_modrm, takes_sib, displacement_length, has_sib, immediate_length, has_fixed, IsLaid}
 use Rattle.vw_rows.specs.Lookup.{matches}
 use Rattle.vw_rows.specs.Meaning.{is_given, insn_of}
 use Rattle.vw_encode.specs.declared.asked.Asked.{Asked}
 use Rattle.vw_encode.specs.declared.candidate.Choice.{Choice}
+use Rattle.vw_encode.specs.Order.{mode_of, scale_of}
 
 -- ---- what the instruction of a row tells of its operands
 
@@ -151,17 +152,6 @@ abbrev pub is_memory : Form → Bool
 is_memory Any = false
 is_memory Memory = true
 is_memory Register = false
-
--- never 8 bits wide
-abbrev pub is_word : Sizing → Bool
-is_word size.None = false
-is_word size.B = false
-is_word size.V = true
-is_word size.V32Or64 = true
-is_word size.Q = true
-is_word size.OnlyW = true
-is_word size.Narrow = false
-is_word size.Wide = false
 
 -- the first operand is a register that is no byte
 abbrev pub full_first : Operands → Form → Bool → Bool
@@ -322,13 +312,13 @@ extends_byte _ = false
 abbrev pub reads_byte : Row → Bool
 reads_byte r = is_byte r.width || extends_byte r.kind
 
-abbrev pub kept : Bool → ℕ → ℕ
-kept true n = n
-kept false n = 0
+abbrev pub read_bit : Bool → ℕ → ℕ
+read_bit true n = n
+read_bit false n = 0
 
 -- the bits of REX that are read
 abbrev pub lean_bits : Bool → Bool → Bool → Bool → ℕ → ℕ
-lean_bits w r x b n = kept w (n / 8 % 2) * 8 + kept r (n / 4 % 2) * 4 + kept x (n / 2 % 2) * 2 + kept b (n % 2)
+lean_bits w r x b n = read_bit w (n / 8 % 2) * 8 + read_bit r (n / 4 % 2) * 4 + read_bit x (n / 2 % 2) * 2 + read_bit b (n % 2)
 
 -- they are all that are set, and there are some unless REX is read itself
 abbrev pub is_lean_bits : Bool → Bool → Bool → Bool → Bool → ℕ → Bool
@@ -347,18 +337,6 @@ pub record Normal (p : Parts) (row : Row) (insn : Insn) : Type 0 where
   pub told : is_told row ≡ true
   pub free : has_free_reg row ≡ true → digit_of p.modrm ≡ 0
   pub lean : is_lean row p.rex ≡ true
-
-abbrev pub mode_of : Option Modrm → ℕ
-mode_of None = 3
-mode_of (Some m) = mode m.byte
-
-abbrev pub scale_in : Option ℕ → Option ℕ
-scale_in None = None
-scale_in (Some sib) = Some (scale sib)
-
-abbrev pub scale_of : Option Modrm → Option ℕ
-scale_of None = None
-scale_of (Some m) = scale_in m.sib
 
 -- the parts are as chosen
 pub record IsChosen (p : Parts) (c : Choice) : Type 0 where
