@@ -8,7 +8,7 @@ use Rattle.vw_bits.specs.Headers.{is_readable, segments_of}
 use Rattle.vw_bits.specs.Places.{is_among, in_memory}
 use Rattle.vw_bits.specs.declared.records.Segment.{Segment}
 use Rattle.vw_dynamic.specs.declared.dynamic.Relocation.{Relocation}
-use Rattle.vw_image.specs.Bounds.{AreBounded}
+use Rattle.vw_bits.specs.Bounds.{AreBounded}
 use Rattle.vw_image.specs.Image.{Contents, image_of, IsImage, shares, touches}
 use Rattle.vw_image.specs.Index.{bound_ones}
 use Rattle.vw_image.specs.Words.{in_readable, readable}

@@ -15,8 +15,3 @@ pub use laws::{
     checks_are_conditions, least_table_is_safe, lower_states_pass, rounds_of_safe_functions_pass,
     stable_rounds_are_safe, stops_are_checks,
 };
-
-#[cfg(test)]
-mod table_tests;
-#[cfg(test)]
-mod tests;

@@ -66,3 +66,4 @@ pub mod CallLemmas
 pub mod CallForms
 pub mod CallStates
 pub mod PlainPlaces
+pub mod SimpleCells

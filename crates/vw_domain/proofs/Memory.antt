@@ -14,7 +14,7 @@ use Rattle.vw_insn.specs.declared.registers.Width.TheVariants.{W32, W64}
 use Rattle.vw_insn.specs.declared.operands.Mem.{Mem}
 use Rattle.vw_insn.specs.declared.operands.Base.{Base}
 use Rattle.vw_insn.specs.declared.operands.Base.TheVariants as base
-use Rattle.vw_insn.specs.Words.{Flags as StatusFlags, number, low, merged, word_of}
+use Rattle.vw_insn.specs.Words.{Flags as StatusFlags, number, low, with_low, word_of}
 use Rattle.vw_insn.specs.Arithmetic.{extended}
 use Rattle.vw_insn.specs.Effect.{address}
 use Rattle.vw_stmt.specs.declared.operands.Var.{Var}
@@ -209,7 +209,7 @@ module _ (top : Machine) (site : Site) (next : ℕ) (laid : IsPlaced top site ne
   offset_stands a x at m = wide_stands a (extended true W32 W64 (low W32 (loads e.bytes x 4)))
 
   abbrev result : ℕ → ℕ → ℕ → Width → Bool → ℕ
-  result x old size to sg = merged to old (extended sg (width_of size) to (low (width_of size) (loads e.bytes x size)))
+  result x old size to sg = with_low to old (extended sg (width_of size) to (low (width_of size) (loads e.bytes x size)))
 
   plain_stands : (a : Address) (x old : ℕ) → A a x → (size : ℕ) (to : Width) (sg : Bool) → IsLoad size to sg → MayRead site st a size → V (plain_load site a size to sg) (result x old size to sg)
   plain_stands a x old at =
@@ -257,7 +257,7 @@ module _ (top : Machine) (site : Site) (next : ℕ) (laid : IsPlaced top site ne
 
   abbrev frame_at : ℤ → ℕ → ℕ → Width → Bool → Type 0
   frame_at c old size to sg =
-      From (load_source st (Frame c) size sg) (load_value site st (Frame c) size to sg) (merged to old (extended sg (width_of size) to (low (width_of size) (load e.bytes (there c) size))))
+      From (load_source st (Frame c) size sg) (load_value site st (Frame c) size to sg) (with_low to old (extended sg (width_of size) to (low (width_of size) (load e.bytes (there c) size))))
 
   frame_stands : (c : ℤ) (old size : ℕ) (to : Width) (sg : Bool) → IsLoad size to sg → frame_at c old size to sg
   frame_stands c old =
@@ -291,7 +291,7 @@ module _ (top : Machine) (site : Site) (next : ℕ) (laid : IsPlaced top site ne
       → From (load_source st a size sg) (load_value site st a size to sg) (result x old size to sg)
   loaded (Frame c) x old size to sg i at may =
       let same_bytes = frame_loads c size x (some_size size to sg i) may.1 at in
-      let P : ℕ → Type 0 = λ y. From (load_source st (Frame c) size sg) (load_value site st (Frame c) size to sg) (merged to old (extended sg (width_of size) to (low (width_of size) y))) in
+      let P : ℕ → Type 0 = λ y. From (load_source st (Frame c) size sg) (load_value site st (Frame c) size to sg) (with_low to old (extended sg (width_of size) to (low (width_of size) y))) in
       subst P (sym same_bytes) (frame_stands c old size to sg i)
   loaded a x old size to sg i at may = plain_stands a x old at size to sg i may
 

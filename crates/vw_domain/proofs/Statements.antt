@@ -11,7 +11,7 @@ use Rattle.vw_insn.specs.declared.registers.Width.TheVariants.{W8, W16, W32, W64
 use Rattle.vw_insn.specs.declared.operands.Mem.{Mem}
 use Rattle.vw_insn.specs.declared.operands.Base.{Base}
 use Rattle.vw_insn.specs.declared.operands.Base.TheVariants as base
-use Rattle.vw_insn.specs.Words.{number, low, merged, word_of}
+use Rattle.vw_insn.specs.Words.{number, low, with_low, word_of}
 use Rattle.vw_insn.specs.Effect.{address}
 use Rattle.vw_stmt.specs.declared.operands.Var.{Var}
 use Rattle.vw_stmt.specs.declared.operands.Var.TheVariants as var
@@ -251,7 +251,7 @@ module _ (top : Machine) (site : Site) (next : ℕ) (laid : IsPlaced top site ne
   operand_good (operand.Var v) = good (Register (index_of v))
   operand_good (operand.Imm i) = (word_fits i, tt)
 
-  chosen_stands : (width : Width) (x y : Value) (a b old : ℕ) → IsValid site.bounds x → IsValid site.bounds y → V x a → V y b → V (chosen_value site width x y) (merged width old (low width (if pick.second then b else a)))
+  chosen_stands : (width : Width) (x y : Value) (a b old : ℕ) → IsValid site.bounds x → IsValid site.bounds y → V x a → V y b → V (chosen_value site width x y) (with_low width old (low width (if pick.second then b else a)))
   chosen_stands W8 x y a b old vx vy sa sb = tt
   chosen_stands W16 x y a b old vx vy sa sb = tt
   chosen_stands W32 x y a b old vx vy sa sb = by_test pick.second
@@ -272,7 +272,7 @@ module _ (top : Machine) (site : Site) (next : ℕ) (laid : IsPlaced top site ne
       by_test false = under_stands top site (held_of e) next laid laws bounds _ _ _ (join_valid site laws bounds x y vx vy).0 (join_left site laws bounds _ _ vx vy) sa
 
   chosen_place : (width : Width) (o o' : Offset) (a b old : ℕ) → OffsetStands top.entry_rsp o a → OffsetStands top.entry_rsp o' b
-      → OffsetStands top.entry_rsp (chosen_offset width o o') (merged width old (low width (if pick.second then b else a)))
+      → OffsetStands top.entry_rsp (chosen_offset width o o') (with_low width old (low width (if pick.second then b else a)))
   chosen_place W8 o o' a b old so so' = tt
   chosen_place W16 o o' a b old so so' = tt
   chosen_place W32 o o' a b old so so' = tt

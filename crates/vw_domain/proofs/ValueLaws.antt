@@ -7,7 +7,7 @@ use Rattle.std.proofs.lemmas.Nat.{and_le_l}
 use Rattle.vw_insn.specs.Listed.{IsNarrow, IsWide}
 use Rattle.vw_insn.specs.declared.registers.Width.{Width}
 use Rattle.vw_insn.specs.declared.registers.Width.TheVariants.{W8, W16, W32, W64}
-use Rattle.vw_insn.specs.Words.{low, merged}
+use Rattle.vw_insn.specs.Words.{low, with_low}
 use Rattle.vw_insn.specs.Arithmetic.{extended, wrapped_sum, wrapped_difference}
 use Rattle.vw_lattice.specs.Order.{IsJoin}
 use Rattle.vw_values.specs.declared.value.Value.{Value}
@@ -77,7 +77,7 @@ module _ (top : Machine) (site : Site) (held : ℕ → ℕ) (next : ℕ) (laid :
   pub narrow32_stands : (v : Value) (a : ℕ) → V v a → V (narrow32 v) (a % 2 ^ 32)
   narrow32_stands v a h = laws.lows_stand top.instance held v a h
 
-  pub narrowed_stands : (signed : Bool) (from to : Width) (v : Value) (a old : ℕ) → IsNarrow from → IsWide to → V v a → V (narrow v from to signed) (merged to old (extended signed from to (low from a)))
+  pub narrowed_stands : (signed : Bool) (from to : Width) (v : Value) (a old : ℕ) → IsNarrow from → IsWide to → V v a → V (narrow v from to signed) (with_low to old (extended signed from to (low from a)))
   narrowed_stands signed from W8 v a old n m h = absurd m
   narrowed_stands signed from W16 v a old n m h = absurd m
   narrowed_stands signed from W32 v a old n m h = laws.narrows_stand top.instance held v from W32 signed a n tt h
@@ -87,7 +87,7 @@ module _ (top : Machine) (site : Site) (held : ℕ → ℕ) (next : ℕ) (laid :
   scaled_stands s v a f h = subst (λ n. V (scale v s) (n % 2 ^ 64)) (mul_comm s a) (laws.scales_stand top.instance held v s a f h)
 
   pub and_stands : (width : Width) (x y : Value) (a b old : ℕ) → IsWide width → V x a → V y b
-      → V (and x y width site.bounds) (merged width old (low width (bit_and (low width a) (low width b))))
+      → V (and x y width site.bounds) (with_low width old (low width (bit_and (low width a) (low width b))))
   and_stands W8 x y a b old m h k = absurd m
   and_stands W16 x y a b old m h k = absurd m
   and_stands W32 x y a b old m h k =

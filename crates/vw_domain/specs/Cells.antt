@@ -1,6 +1,6 @@
 -- How what is known of a register stands in the 32 bytes of a cell: which variant its value is, and side by side what
 -- the variants hold. What a variant does not hold is zero.
-use Rattle.std.specs.Prelude.{ℕ, ℤ, pos, Bool, true, false, Some, None}
+use Rattle.std.specs.Prelude.{◌≡◌, ℕ, ℤ, pos, Bool, true, false, Some, None}
 use Rattle.vw_stack.specs.declared.offset.Offset.{Offset}
 use Rattle.vw_stack.specs.declared.offset.Offset.TheVariants.{Known, Unknown}
 use Rattle.vw_values.specs.declared.value.Via.TheVariants.{At, Idx}
@@ -69,6 +69,24 @@ abbrev pub is_tag : Kind → Bool
 is_tag kind.TagAt = true
 is_tag kind.TagIdx = true
 is_tag k = false
+
+-- what the value holds beside its variant is at most the register's number, and no bound
+abbrev pub is_simple : Kind → Bool
+is_simple kind.Any = true
+is_simple kind.Num = true
+is_simple kind.HeapBase = true
+is_simple kind.HeapAddr = true
+is_simple kind.Globals = true
+is_simple kind.Entry = true
+is_simple k = false
+
+-- both have this one simple value at one distance
+pub record AreOneSimple (a b : Word) : Type 0 where
+  pub simple : is_simple a.kind ≡ true
+  pub kind : a.kind ≡ b.kind
+  pub register : a.register ≡ b.register
+  pub known : a.is_known ≡ b.is_known
+  pub offset : a.offset ≡ b.offset
 
 abbrev pub offset_by : Bool → ℤ → Offset
 offset_by true c = Known c

@@ -29,3 +29,4 @@ pub mod ValueLaws
 pub mod EquationLaws
 pub mod FormLaws
 pub mod Plain
+pub mod Rest

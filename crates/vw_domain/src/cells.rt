@@ -1,6 +1,7 @@
-ghost use Rattle.std.specs.Prelude.{◌≡◌, ◌↔◌, IsTrue};
+ghost use Rattle.std.specs.Prelude.{◌≡◌, ◌↔◌, ℕ, List, IsTrue};
 ghost use Rattle.vw_values.specs.Values.{IsAmong};
-ghost use Rattle.vw_domain.specs.Cells.{is_tag, value_word, value_of_word, register_word, register_of_word};
+ghost use Rattle.vw_domain.specs.Registers.{register_below};
+ghost use Rattle.vw_domain.specs.Cells.{is_simple, is_tag, AreOneSimple, value_word, value_of_word, register_word, register_of_word};
 ghost use Rattle.vw_domain.specs.Plain.{is_entry};
 ghost use Rattle.vw_domain.specs.Writes.{forgotten_register};
 
@@ -237,6 +238,27 @@ fn is_tag(kind: Kind) -> bool
     matches!(kind, Kind::TagAt | Kind::TagIdx)
 }
 
+// Whether the value names no bound and no number but a register's.
+fn is_simple(kind: Kind) -> bool
+    ensures { result ≡ is_simple kind }
+{
+    matches!(
+        kind,
+        Kind::Any | Kind::Num | Kind::HeapBase | Kind::HeapAddr | Kind::Globals | Kind::Entry
+    )
+}
+
+// Whether two words are of one such value at one distance. What such a value does not use is not looked at.
+fn are_one_simple(a: &Word, b: &Word) -> bool
+    ensures { IsTrue result → AreOneSimple a.now b.now }
+{
+    a.kind == b.kind
+        && a.register == b.register
+        && a.is_known == b.is_known
+        && a.offset == b.offset
+        && is_simple(a.kind)
+}
+
 fn is_same_word(a: &Word, b: &Word) -> bool
     ensures { IsTrue result → a.now ≡ b.now }
 {
@@ -331,6 +353,14 @@ impl Cell {
         ensures { IsTrue result → self.now ≡ other.now }
     {
         is_same_word(&self.word, &other.word)
+    }
+
+    // Whether two cells are of one register whose value names no bound, as most are.
+    pub(crate) fn is_same_simple(&self, other: &Cell) -> bool
+        ensures below { IsTrue result → register_below self.now other.now }
+        ensures among { IsTrue result → (bounds : List ℕ) → IsAmong bounds other.now.value }
+    {
+        are_one_simple(&self.word, &other.word)
     }
 
     // Leaves of the register what is still known of it once registers are written. Only a tag is looked at.

@@ -1,10 +1,12 @@
 ghost use Rattle.std.specs.Prelude.{◌≡◌, ◌||◌, ◌↔◌, ◌≤◌, ◌<◌, ℕ, ℤ, length, min, IsTrue, IfOk, OnOk};
 ghost use Rattle.vw_lattice.specs.Order.{IsJoin, TellsChange};
-ghost use Rattle.vw_domain.specs.State.{fact_below, state_below, IsState, unknown_state};
+ghost use Rattle.vw_domain.specs.State.{fact_below, state_below, AreSlots, Fits, IsState, unknown_state};
 ghost use Rattle.vw_domain.specs.StateJoin.{IsFactJoin, JoinsParts};
+ghost use Rattle.vw_domain.specs.Rest.{rest_below};
 
 use crate::cells::Cell;
-use crate::registers::{Register, is_row_below, join_rows};
+use crate::registers::{Register, does_row_land, is_row_below, join_rows};
+use crate::slots::are_slots_among;
 use std::alloc::Global;
 use vw_bits::OutOfMemory;
 use vw_lattice::{Lattice, MapOf};
@@ -77,16 +79,34 @@ fn join_depth(probed: &mut u64, other: u64) -> bool
     true
 }
 
+// Whether each part but the registers is below that of the other.
+fn is_rest_below(low: &Parts, high: &Parts) -> bool
+    ensures { IsTrue result ↔ rest_below low.now high.now }
+{
+    high.probed <= low.probed
+        && is_fact_below(low.fact, high.fact)
+        && low.slots.leq(&high.slots)
+        && low.classes.leq(&high.classes)
+        && low.written.leq(&high.written)
+}
+
 // Whether each part is below that of the other.
 pub(crate) fn is_below(low: &Parts, high: &Parts) -> bool
     ensures { IsTrue result ↔ state_below low.now high.now }
 {
-    high.probed <= low.probed
-        && is_fact_below(low.fact, high.fact)
-        && is_row_below(&low.registers, &high.registers)
-        && low.slots.leq(&high.slots)
-        && low.classes.leq(&high.classes)
-        && low.written.leq(&high.written)
+    is_row_below(&low.registers, &high.registers) && is_rest_below(low, high)
+}
+
+// Whether each bound that a value of the greater parts names is among these, and each part is below that of the other, in
+// one pass over the registers of both.
+pub(crate) fn do_land(low: &Parts, high: &Parts, bounds: &Bounds) -> bool
+    requires { AreSlots high.now.slots }
+    ensures { IsTrue result ↔ (Fits bounds.now high.now × state_below low.now high.now) }
+{
+    if !does_row_land(&low.registers, &high.registers, bounds) {
+        return false;
+    }
+    are_slots_among(&high.slots, bounds) && is_rest_below(low, high)
 }
 
 // Whether one of these holds, each of which is said of a part.

@@ -1,5 +1,6 @@
 ghost use Rattle.std.specs.Prelude.{◌≡◌, ◌↔◌, ◌≤◌, ◌<◌, ℕ, length, IsTrue, IfOk};
 ghost use Rattle.vw_lattice.specs.Order.{IsJoin, TellsChange};
+ghost use Rattle.vw_values.specs.Values.{IsAmong};
 ghost use Rattle.vw_domain.specs.Registers.{IsRegister, IsValidRegister, register_below, register_at, row_below, IsRow, JoinsRegister, JoinsRows, IsRowAmong};
 
 use crate::cells::Cell;
@@ -113,6 +114,29 @@ pub(crate) fn is_row_below(low: &[Cell; 17], high: &[Cell; 17]) -> bool
 {
     for i in 0..17 {
         if !is_cell_below(&low[i], &high[i]) {
+            return false;
+        }
+    }
+    true
+}
+
+// Whether the bound that the greater register's value names is among these, and the other is below it. Most cells are
+// equal and name no bound.
+fn does_cell_land(low: &Cell, high: &Cell, bounds: &Bounds) -> bool
+    ensures { IsTrue result ↔ (IsAmong bounds.now high.now.value × register_below low.now high.now) }
+{
+    if low.is_same_simple(high) {
+        return true;
+    }
+    high.is_among(bounds) && is_cell_below(low, high)
+}
+
+// The same of each register of two rows, in one pass over both.
+pub(crate) fn does_row_land(low: &[Cell; 17], high: &[Cell; 17], bounds: &Bounds) -> bool
+    ensures { IsTrue result ↔ (IsRowAmong bounds.now high.now × row_below low.now high.now) }
+{
+    for i in 0..17 {
+        if !does_cell_land(&low[i], &high[i], bounds) {
             return false;
         }
     }

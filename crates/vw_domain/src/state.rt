@@ -3,7 +3,7 @@ ghost use Rattle.vw_domain.specs.State.{Fits, IsState, IsValidState, state_below
 ghost use Rattle.vw_domain.specs.StateOrder.{state_reflexive, state_transitive, state_antisymmetric, state_falls, state_strict};
 
 use crate::cells::Cell;
-use crate::parts::{Parts, copy, copy_from, is_below, join, unknown_parts};
+use crate::parts::{Parts, copy, copy_from, do_land, is_below, join, unknown_parts};
 use crate::registers::{Register, is_row_among};
 use crate::slots::are_slots_among;
 use std::alloc::Global;
@@ -56,6 +56,27 @@ impl State {
     {
         let parts: &Parts = &self.parts;
         is_row_among(&parts.registers, bounds) && are_slots_among(&parts.slots, bounds)
+    }
+
+    /// Whether each bound that a value of the other state names is among these, and the state is below the other one or
+    /// equal to it: `fits` and `leq` in one pass over both. Takes no memory.
+    pub fn lands_below(&self, other: &State, bounds: &Bounds) -> bool
+        ensures { IsTrue result ↔ (Fits bounds.now other.now × state_below self.now other.now) }
+    {
+        do_land(&self.parts, &other.parts, bounds)
+    }
+
+    /// An equal state, in the memory of a spare one where this is given. OutOfMemory where the allocator refuses a request.
+    pub fn copy_in(&self, spare: Option<State>) -> Result<State, OutOfMemory>
+        ensures { IfOk result (λ copy. copy ≡ self.now) }
+    {
+        match spare {
+            Some(mut copy) => {
+                copy.copy_from(self)?;
+                Ok(copy)
+            }
+            None => self.copy(),
+        }
     }
 
     /// Makes the state equal to another one, in the memory that it has where this is enough. Where memory is refused,

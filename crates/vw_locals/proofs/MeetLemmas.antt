@@ -133,6 +133,22 @@ module _ (whole_left whole_right left right common : List (ℤ × ℤ)) (l r par
         ];
       }
 
+  -- what is written in what was pushed is written in both
+  pushed_sound : (new : List (ℤ × ℤ)) → Meeting whole_left whole_right (l ∷ left) (r ∷ right) common → IsCovered l r part → Pushed (l ∷ left) (r ∷ right) common new part → (x : ℤ) → is_written new x ≡ true → (is_written whole_left x ≡ true) × (is_written whole_right x ≡ true)
+  pushed_sound new m is p x written = elim (p.sound x written) [
+    | inl old ↦ m.sound x old
+    | inr here ↦
+        let a = here.low in
+        let b = here.high in
+        let ll = is.low_l in
+        let lr = is.low_r in
+        let hl = is.high_l in
+        let hr = is.high_r in (
+          m.more_left x (written_here l left x (record { low = omega (arith, ints); high = omega (arith, ints) })),
+          m.more_right x (written_here r right x (record { low = omega (arith, ints); high = omega (arith, ints) })),
+        )
+  ]
+
   pub meeting_left : (new : List (ℤ × ℤ)) → Meeting whole_left whole_right (l ∷ left) (r ∷ right) common → IsCovered l r part → Pushed (l ∷ left) (r ∷ right) common new part → l.1 <ℤ r.1 → Meeting whole_left whole_right left (r ∷ right) new
   meeting_left new m is p less = record {
     ranges = p.ranges;
@@ -142,7 +158,7 @@ module _ (whole_left whole_right left right common : List (ℤ × ℤ)) (l r par
         let behind = tail_above l left x m.ranges_left in_left in
         let h = is.high_l in
         p.gap k d x within (omega (arith, ints)) (written_there l left x in_left) in_right;
-    sound = sound_of new m is p;
+    sound = pushed_sound new m is p;
     more_left = λ x written. m.more_left x (written_there l left x written);
     more_right = m.more_right;
     complete = λ x in_left in_right. elim (m.complete x in_left in_right) [
@@ -159,21 +175,6 @@ module _ (whole_left whole_right left right common : List (ℤ × ℤ)) (l r par
       ]
     ];
   }
-    where
-      sound_of : (new : List (ℤ × ℤ)) → Meeting whole_left whole_right (l ∷ left) (r ∷ right) common → IsCovered l r part → Pushed (l ∷ left) (r ∷ right) common new part → (x : ℤ) → is_written new x ≡ true → (is_written whole_left x ≡ true) × (is_written whole_right x ≡ true)
-      sound_of new m is p x written = elim (p.sound x written) [
-        | inl old ↦ m.sound x old
-        | inr here ↦
-            let a = here.low in
-            let b = here.high in
-            let ll = is.low_l in
-            let lr = is.low_r in
-            let hl = is.high_l in
-            let hr = is.high_r in (
-              m.more_left x (written_here l left x (record { low = omega (arith, ints); high = omega (arith, ints) })),
-              m.more_right x (written_here r right x (record { low = omega (arith, ints); high = omega (arith, ints) })),
-            )
-      ]
 
   pub meeting_right : (new : List (ℤ × ℤ)) → Meeting whole_left whole_right (l ∷ left) (r ∷ right) common → IsCovered l r part → Pushed (l ∷ left) (r ∷ right) common new part → r.1 ≤ℤ l.1 → Meeting whole_left whole_right (l ∷ left) right new
   meeting_right new m is p less = record {
@@ -184,7 +185,7 @@ module _ (whole_left whole_right left right common : List (ℤ × ℤ)) (l r par
         let behind = tail_above r right x m.ranges_right in_right in
         let h = is.high_r in
         p.gap k d x within (omega (arith, ints)) in_left (written_there r right x in_right);
-    sound = sound_of new m is p;
+    sound = pushed_sound new m is p;
     more_left = m.more_left;
     more_right = λ x written. m.more_right x (written_there r right x written);
     complete = λ x in_left in_right. elim (m.complete x in_left in_right) [
@@ -201,21 +202,6 @@ module _ (whole_left whole_right left right common : List (ℤ × ℤ)) (l r par
       ]
     ];
   }
-    where
-      sound_of : (new : List (ℤ × ℤ)) → Meeting whole_left whole_right (l ∷ left) (r ∷ right) common → IsCovered l r part → Pushed (l ∷ left) (r ∷ right) common new part → (x : ℤ) → is_written new x ≡ true → (is_written whole_left x ≡ true) × (is_written whole_right x ≡ true)
-      sound_of new m is p x written = elim (p.sound x written) [
-        | inl old ↦ m.sound x old
-        | inr here ↦
-            let a = here.low in
-            let b = here.high in
-            let ll = is.low_l in
-            let lr = is.low_r in
-            let hl = is.high_l in
-            let hr = is.high_r in (
-              m.more_left x (written_here l left x (record { low = omega (arith, ints); high = omega (arith, ints) })),
-              m.more_right x (written_here r right x (record { low = omega (arith, ints); high = omega (arith, ints) })),
-            )
-      ]
 
 pub pushed : (whole_left whole_right left right common new : List (ℤ × ℤ)) (l r : ℤ × ℤ) → Meeting whole_left whole_right (l ∷ left) (r ∷ right) common → (puts : PutsPart l r common new) → Pushed (l ∷ left) (r ∷ right) common new puts.part
 pushed whole_left whole_right left right common new l r m puts =

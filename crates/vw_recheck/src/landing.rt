@@ -6,7 +6,6 @@ ghost use Rattle.vw_state.specs.Tables.{state_of};
 ghost use Rattle.vw_recheck.specs.Places.{PointsAscend};
 
 use vw_domain::State;
-use vw_lattice::Lattice;
 use vw_state::{PointState, Site};
 
 /// Whether the points of a table ascend, none of them twice. Takes no memory.
@@ -60,7 +59,7 @@ pub(crate) fn lands(site: &Site, states: &[PointState], near: usize, at: u32, st
     match state_at(states, near, at) {
         Some(cover) => {
             cover.is_state();
-            cover.fits(site.bounds) && state.leq(cover)
+            state.lands_below(cover, site.bounds)
         }
         None => false,
     }

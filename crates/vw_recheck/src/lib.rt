@@ -6,6 +6,3 @@ mod module;
 mod table;
 
 pub use module::recheck;
-
-#[cfg(test)]
-mod tests;

@@ -7,12 +7,11 @@ ghost use Rattle.vw_state.specs.Context.{extent_of, lengths_of};
 ghost use Rattle.vw_checks.specs.Modules.{AreSafe};
 ghost use Rattle.vw_recheck.specs.Places.{EntriesAscend, IsLowestPlace, IsPlaceOf, IsFirstLeft};
 
-use crate::table::lowest_in;
+use crate::table::{Used, lowest_in};
 use std::alloc::Global;
 use vw_bits::OutOfMemory;
 use vw_domain::{State, entry_state};
 use vw_layout::{Function, Module, functions_ascend};
-use vw_solver::Edges;
 use vw_state::{
     FunctionTable, Place, Site, Tables, bounds_of, code_of, codes_are_bytes, edges_are_post,
     lengths_of, tables_of,
@@ -42,7 +41,7 @@ pub fn recheck(
     let extents = tables_of(alloc, loaded)?;
     let lengths = lengths_of(alloc, loaded)?;
     let start = entry_state(alloc)?;
-    let mut edges = Edges::new(alloc);
+    let mut used = Used::new(alloc);
     let functions = loaded.functions.as_slice();
     let given = tables.functions.as_slice();
     let mut number = 0;
@@ -57,7 +56,7 @@ pub fn recheck(
             function,
             table,
             &start,
-            &mut edges,
+            &mut used,
         )? {
             return Ok(Some(place));
         }
@@ -67,7 +66,7 @@ pub fn recheck(
 }
 
 // The place of a declared function beside a given table. The tables of the module are given by address and number of
-// entries, and by the number of entries alone. `start` is the state at an entry; of the edges only the memory is taken.
+// entries, and by the number of entries alone. `start` is the state at an entry.
 fn place_of(
     alloc: Global,
     loaded: &Module,
@@ -76,7 +75,7 @@ fn place_of(
     function: &Function,
     table: &FunctionTable,
     start: &State,
-    edges: &mut Edges<State>,
+    used: &mut Used,
 ) -> Result<Option<Place>, OutOfMemory>
     requires whole { IsWhole loaded.now }
     requires tables { extents.now ≡ map extent_of loaded.now.tables }
@@ -99,7 +98,7 @@ fn place_of(
         size: function.size,
         bounds: &bounds,
     };
-    match lowest_in(alloc, loaded, &site, table.states.as_slice(), start, edges)? {
+    match lowest_in(alloc, loaded, &site, table.states.as_slice(), start, used)? {
         Some((at, check)) => Ok(Some(Place {
             entry: function.entry,
             at,

@@ -11,7 +11,6 @@ use std::alloc::Global;
 use vw_bits::OutOfMemory;
 use vw_checks::{check_and_change, check_of_code};
 use vw_domain::State;
-use vw_lattice::Lattice;
 use vw_layout::Module;
 use vw_lift::lift;
 use vw_solver::Edges;
@@ -20,24 +19,43 @@ use vw_state::{
     instruction_at, post_behind,
 };
 
-// A copy of a state, in the memory of the last of some edges where there is one. No edge is left.
-fn copy_in(edges: &mut Edges<State>, state: &State) -> Result<State, OutOfMemory>
-    ensures copy { IfOk result (λ copy. copy ≡ state.now) }
-    ensures empty { edges.new ≡ [] }
-{
-    let last = edges.pop();
-    edges.truncate(0);
-    match last {
-        Some((_, mut copy)) => {
-            copy.copy_from(state)?;
-            Ok(copy)
+/// States whose memory serves one point after another: those of the edges of the point before, and one more, for a point
+/// that two edges leave.
+#[derive(Drop)]
+pub(crate) struct Used {
+    edges: Edges<State>,
+    spare: Option<State>,
+}
+
+impl Used {
+    /// None yet. Takes no memory.
+    pub(crate) fn new(alloc: Global) -> Used
+        ensures { result.edges ≡ [] }
+    {
+        Used {
+            edges: Edges::new(alloc),
+            spare: None,
         }
-        None => state.copy(),
     }
 }
 
-// The lowest number of what fails at a point of a table. Most edges go to the point with the number `near` in the table. Of
-// the given edges only the memory is taken: that of those of the point before, for the state that is changed here.
+// A copy of a state, in the memory of the last of the edges where there is one. No edge is left.
+fn copy_in(used: &mut Used, state: &State) -> Result<State, OutOfMemory>
+    ensures copy { IfOk result (λ copy. copy ≡ state.now) }
+    ensures empty { used.new.edges ≡ [] }
+{
+    let last = used.edges.pop();
+    if let Some((_, other)) = used.edges.pop() {
+        used.spare = Some(other);
+    }
+    used.edges.truncate(0);
+    match last {
+        Some((_, copy)) => state.copy_in(Some(copy)),
+        None => state.copy_in(None),
+    }
+}
+
+// The lowest number of what fails at a point of a table. Most edges go to the point with the number `near` in the table.
 fn failing_at(
     alloc: Global,
     loaded: &Module,
@@ -46,7 +64,7 @@ fn failing_at(
     states: &[PointState],
     point: &PointState,
     near: usize,
-    edges: &mut Edges<State>,
+    used: &mut Used,
 ) -> Result<Option<u8>, OutOfMemory>
     requires whole { IsWhole loaded.now }
     requires few { length site.now.tables.now ≤ 64 }
@@ -70,15 +88,15 @@ fn failing_at(
         insn: &insn,
         stmts: stmts.as_slice(),
     };
-    let mut state = copy_in(edges, &point.state)?;
+    let mut state = copy_in(used, &point.state)?;
     let number = check_and_change(loaded, site, code, &here, &mut state)?;
     if has_no_edge(site, code, &here) {
         // the point after it takes the memory of the state
-        edges.push((point.at, state))?;
+        used.edges.push((point.at, state))?;
         return Ok(number);
     }
-    post_behind(site, code, &here, state, edges)?;
-    if !all_land(site, states, near, edges.as_slice()) {
+    post_behind(site, code, &here, state, &mut used.spare, &mut used.edges)?;
+    if !all_land(site, states, near, used.edges.as_slice()) {
         return Ok(Some(0));
     }
     Ok(number)
@@ -86,14 +104,14 @@ fn failing_at(
 
 /// The lowest offset at which a function's table is not safe, with the lowest number there: 0 where the table is no
 /// solution of the function's equations, and else that of a check. `None` exactly where the table is safe. `start` is the
-/// state at an entry; of the edges only the memory is taken.
+/// state at an entry.
 pub(crate) fn lowest_in(
     alloc: Global,
     loaded: &Module,
     site: &Site,
     states: &[PointState],
     start: &State,
-    edges: &mut Edges<State>,
+    used: &mut Used,
 ) -> Result<Option<(u32, u8)>, OutOfMemory>
     requires whole { IsWhole loaded.now }
     requires few { length site.now.tables.now ≤ 64 }
@@ -115,7 +133,7 @@ pub(crate) fn lowest_in(
     let mut near = 0usize;
     for point in states {
         near = near.saturating_add(1);
-        if let Some(number) = failing_at(alloc, loaded, site, code, states, point, near, edges)? {
+        if let Some(number) = failing_at(alloc, loaded, site, code, states, point, near, used)? {
             return Ok(Some((point.at, number)));
         }
     }

@@ -21,7 +21,9 @@ use Rattle.vw_insn.specs.declared.operations.ShiftOp.{ShiftOp}
 use Rattle.vw_insn.specs.declared.operations.UnaryOp.{UnaryOp}
 use Rattle.vw_insn.specs.declared.operations.UnaryOp.TheVariants as unary
 use Rattle.vw_insn.specs.declared.xmm.XmmRow.{XmmRow}
-use Rattle.vw_insn.specs.declared.xmm.XmmRow.TheVariants.{MovdStore, Cvttss2si, Cvttsd2si, Cvtss2si, Cvtsd2si, Ucomiss, Ucomisd, Comiss, Comisd}
+use Rattle.vw_insn.specs.declared.xmm.XmmRole.{XmmRole}
+use Rattle.vw_insn.specs.declared.xmm.XmmRole.TheVariants as role
+use Rattle.vw_insn.specs.XmmTable.{xmm_role}
 use Rattle.vw_insn.specs.declared.instruction.Insn.{Insn}
 use Rattle.vw_insn.specs.declared.instruction.Insn.TheVariants as insn
 use Rattle.vw_insn.specs.Listed.{IsListed}
@@ -343,20 +345,14 @@ touched_fit : (row : XmmRow) (wide : Bool) (rm : XmmOperand) → XmmFits rm → 
 touched_fit row wide (xmm.Reg n) h = tt
 touched_fit row wide (xmm.Mem mem) h = (h, tt)
 
-general_fit : (row : XmmRow) (wide : Bool) (reg : ℕ) (rm : XmmOperand) → AllFit (general_open row wide reg rm)
-general_fit Cvttss2si wide reg rm = (tt, tt)
-general_fit Cvttsd2si wide reg rm = (tt, tt)
-general_fit Cvtss2si wide reg rm = (tt, tt)
-general_fit Cvtsd2si wide reg rm = (tt, tt)
-general_fit MovdStore wide reg (xmm.Reg n) = (tt, tt)
-general_fit MovdStore wide reg (xmm.Mem mem) = tt
+general_fit : (what : XmmRole) (wide : Bool) (reg : ℕ) (rm : XmmOperand) → AllFit (general_open what wide reg rm)
+general_fit role.ToGeneral wide reg rm = (tt, tt)
+general_fit role.MoveToGeneral wide reg (xmm.Reg n) = (tt, tt)
+general_fit role.MoveToGeneral wide reg (xmm.Mem mem) = tt
 general_fit _ wide reg rm = tt
 
-xmm_compared_fit : (row : XmmRow) → AllFit (xmm_compared row)
-xmm_compared_fit Ucomiss = (tt, tt)
-xmm_compared_fit Ucomisd = (tt, tt)
-xmm_compared_fit Comiss = (tt, tt)
-xmm_compared_fit Comisd = (tt, tt)
+xmm_compared_fit : (what : XmmRole) → AllFit (xmm_compared what)
+xmm_compared_fit role.Compare = (tt, tt)
 xmm_compared_fit _ = tt
 
 stack_disp : IsDisplacement (pos 0)
@@ -392,7 +388,10 @@ steps_fit (insn.Bits op w dst src) h = both_fit (fetched w src) _ (fetched_fit w
 steps_fit (insn.Bt w a bit) h = (tt, tt)
 steps_fit (insn.Bswap w dst) h = (tt, tt)
 steps_fit (insn.Xmm row wide reg rm imm) h =
-    both_fit (touched row wide rm ++ general_open row wide reg rm) (xmm_compared row) (both_fit (touched row wide rm) (general_open row wide reg rm) (touched_fit row wide rm h) (general_fit row wide reg rm)) (xmm_compared_fit row)
+    let what : XmmRole = xmm_role row in
+    both_fit (touched row wide rm ++ general_open what wide reg rm) (xmm_compared what)
+    (both_fit (touched row wide rm) (general_open what wide reg rm) (touched_fit row wide rm h) (general_fit what wide reg rm))
+    (xmm_compared_fit what)
 steps_fit (insn.Jcc cond rel) h = tt
 steps_fit (insn.Jump rel) h = tt
 steps_fit (insn.Call rel) h = tt

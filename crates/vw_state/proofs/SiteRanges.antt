@@ -15,7 +15,7 @@ use Rattle.vw_image.specs.declared.word.Word.{Word}
 use Rattle.vw_image.specs.declared.word.Word.TheVariants as word
 use Rattle.vw_image.specs.Image.{Contents, segment_byte, memory_byte, touches}
 use Rattle.vw_image.specs.Index.{kind_at}
-use Rattle.vw_image.specs.Words.{in_readable, word_of, unrelocated_word, word_at}
+use Rattle.vw_image.specs.Words.{in_readable, word_of_kind, unrelocated_word, word_at}
 use Rattle.vw_layout.specs.declared.functions.Function.{Function}
 use Rattle.vw_layout.specs.declared.layout.Module.{Module as Declared}
 use Rattle.vw_layout.specs.declared.tables.TableInfo.{TableInfo}
@@ -60,7 +60,7 @@ module _ (image : Contents) (are : IsBytes image.bytes) where
     of_memory false true e = subst (λ y. y < 256 ^ n) (plain_is e) (load_fits (memory_byte image.bytes image.segments) a n memory_fits)
     of_memory false false e = absurd cc
 
-    by_kind : (kind : Option RelKind) → option_map_or word_of kind (unrelocated_word image a n) ≡ word.Plain x → x < 256 ^ n
+    by_kind : (kind : Option RelKind) → option_map_or word_of_kind kind (unrelocated_word image a n) ≡ word.Plain x → x < 256 ^ n
     by_kind None e = of_memory (list_any (touches a n) image.relocations) (in_readable image.segments a n) e
     by_kind (Some (BasedKind addend)) e = absurd cc
     by_kind (Some (BoundKind number)) e = absurd cc

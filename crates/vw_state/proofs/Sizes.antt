@@ -12,7 +12,7 @@ use Rattle.vw_bits.specs.Places.{is_among, in_file_part, file_offset}
 use Rattle.vw_dynamic.specs.Dynamic.{dynamic_fault}
 use Rattle.vw_image.specs.Image.{image_of}
 use Rattle.vw_image.specs.Words.{bytes_at}
-use Rattle.vw_image.specs.Bounds.{IsBounded, AreBounded}
+use Rattle.vw_bits.specs.Bounds.{IsBounded, AreBounded}
 use Rattle.vw_layout.specs.declared.functions.Function.{Function}
 use Rattle.vw_layout.specs.Layout.{module_fault, layout_fault, IsModule, declared_functions}
 use Rattle.vw_layout.specs.Laws.{IsCode}

@@ -8,7 +8,7 @@ use crate::opcodes::may_count;
 use std::alloc::Global;
 use vw_bits::OutOfMemory;
 use vw_decode::{decode, read_is_spelling};
-use vw_insn::{AluOp, Insn, Source, Width};
+use vw_insn::{AluOp, Insn, Source, Width, word_of};
 use vw_values::Bounds;
 
 /// The bounds that values of a function with this code may name, in a module whose tables have these numbers of entries:
@@ -91,14 +91,6 @@ fn immediate(w: Width, src: Source) -> Option<u64>
 {
     match src {
         Source::Place(_) => None,
-        Source::Imm(imm) => {
-            let word = i64::from(imm).cast_unsigned();
-            Some(match w {
-                Width::W8 => word % 0x100,
-                Width::W16 => word % 0x1_0000,
-                Width::W32 => word % 0x1_0000_0000,
-                Width::W64 => word,
-            })
-        }
+        Source::Imm(imm) => Some(w.low(word_of(imm))),
     }
 }

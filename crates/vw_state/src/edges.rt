@@ -21,7 +21,6 @@ use crate::flow_edges::append_flow;
 use crate::jumps::{jump_table, stays_inside};
 use crate::laws::{code_is_short, edges_are_post};
 use crate::registers::known_of;
-use crate::site::as_bytes;
 use crate::statements::{change_all, change_by_stmts};
 use crate::{JumpTable, Site};
 use std::alloc::Global;
@@ -31,6 +30,7 @@ use vw_domain::State;
 use vw_insn::Insn;
 use vw_lattice::Lattice;
 use vw_lift::lift;
+use vw_rows::as_bytes;
 use vw_solver::Edges;
 use vw_stmt::{Flow, Stmt};
 
@@ -124,17 +124,19 @@ fn post_of_insn(
     let _size = site.size;
     let mut behind = state.copy()?;
     change_by_stmts(site, point.at + point.len, point.stmts, &mut behind)?;
-    post_behind(site, code, point, behind, out)
+    post_behind(site, code, point, behind, &mut None, out)
 }
 
 /// The same, where the instruction at the point is at hand, and the state behind its statements, which
-/// `change_by_stmts` makes of the one before them. The last edge that carries this state takes it over. Beyond the edges,
-/// their other states and what a call may need it takes no memory.
+/// `change_by_stmts` makes of the one before them. The last edge that carries this state takes it over, and the first of
+/// two takes a copy in the memory of the spare state, where one is given, which is gone then. Beyond the edges, their
+/// other states and what a call may need it takes no memory.
 pub fn post_behind(
     site: &Site,
     code: &[u8],
     point: &PointInsn,
     behind: State,
+    spare: &mut Option<State>,
     out: &mut Edges<State>,
 ) -> Result<(), OutOfMemory>
     requires code { code.now ≡ code_at site.now.image.now site.now.entry site.now.size }
@@ -149,7 +151,7 @@ pub fn post_behind(
     let next = point.at + point.len;
     let flow = last_flow(point.stmts);
     let table = table_told(flow, &behind);
-    append_flow(site, next, flow, table, behind, out)
+    append_flow(site, next, flow, table, behind, spare, out)
 }
 
 /// The same, where a jump through a register at this point goes to where the entries of this table lead, whatever the
@@ -180,7 +182,7 @@ pub fn post_with(
     let flow = last_flow(stmts.as_slice());
     let mut behind = state.copy()?;
     go_behind(site, next, stmts.as_slice(), &mut behind)?;
-    append_flow(site, next, flow, table, behind, out)
+    append_flow(site, next, flow, table, behind, &mut None, out)
 }
 
 /// Whether the instruction at a point is a return or a trap, from which no edge leaves with any state. Takes no memory.

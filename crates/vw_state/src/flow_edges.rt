@@ -122,13 +122,15 @@ fn append_edge(
     }
 }
 
-// Appends the edges of a branch: the taken one first. The last edge takes the state itself.
+// Appends the edges of a branch: the taken one first. The last edge takes the state itself, the other one a copy, in the
+// memory of the spare state where there is one.
 fn append_branch(
     site: &Site,
     next: u32,
     cond: Cond,
     rel: i32,
     mut state: State,
+    spare: &mut Option<State>,
     out: &mut Edges<State>,
 ) -> Result<(), OutOfMemory>
     ensures ok { (f : Context) (targets : Var → Abstract → List ℕ) → IsSite f site.now → OnOk result
@@ -141,7 +143,7 @@ fn append_branch(
     let fact = state.fact();
     let to = direct_target(site.size, next, rel);
     let before = out.as_slice().len();
-    let first = state.copy()?;
+    let first = state.copy_in(spare.take())?;
     append_edge(site, told_at(cond, true, fact), to, first, out)?;
     let told = told_at(cond, false, fact);
     let second = append_edge(site, told, Some(next), state, out);
@@ -216,13 +218,14 @@ fn append_jumps(
 }
 
 // Appends the edges of a flow with `next` behind it, with the state after the statements before it. A jump through a
-// register goes to where the entries of the table lead.
+// register goes to where the entries of the table lead. A branch may take the memory of the spare state.
 pub fn append_flow(
     site: &Site,
     next: u32,
     flow: Flow,
     table: Option<JumpTable>,
     state: State,
+    spare: &mut Option<State>,
     out: &mut Edges<State>,
 ) -> Result<(), OutOfMemory>
     ensures ok { (f : Context) (targets : Var → Abstract → List ℕ) → IsSite f site.now
@@ -234,7 +237,7 @@ pub fn append_flow(
     match flow {
         Flow::Next => append_behind(Some(next), state, out),
         Flow::Jump { rel } => append_behind(direct_target(site.size, next, rel), state, out),
-        Flow::Branch { cond, rel } => append_branch(site, next, cond, rel, state, out),
+        Flow::Branch { cond, rel } => append_branch(site, next, cond, rel, state, spare, out),
         Flow::Call { rel } => append_after_direct(site, next, rel, state, out),
         Flow::CallReg { .. } => append_after_call(next, state, out),
         Flow::JumpReg { .. } => append_jumps(site, table, state, out),

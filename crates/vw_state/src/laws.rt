@@ -21,7 +21,6 @@ ghost use Rattle.vw_state.specs.EdgeLaws.{EdgeLaws};
 ghost use Rattle.vw_state.specs.Laws.{HasSites, EdgesRise, EdgesAreValid, EdgesGrow};
 ghost use Rattle.vw_state.specs.Post.{PostBy, edges_by};
 
-use crate::site::as_bytes;
 use vw_decode::read_is_spelling;
 use vw_domain::{
     branches_are_sound, calls_are_sound, edges_are_decided, forms_tell_states,
@@ -30,7 +29,7 @@ use vw_domain::{
 use vw_image::segments_are_bounded;
 use vw_layout::{Module, functions_are_code, tables_are_few};
 use vw_lift::lists_are_in_form;
-use vw_rows::spelled_is_listed;
+use vw_rows::{as_bytes, spelled_is_listed};
 
 /// Each point of code has one list of edges with a state, the one that the bytes are read to.
 pub fn edges_are_post()

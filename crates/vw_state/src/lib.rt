@@ -47,8 +47,3 @@ pub use round_laws::{
 pub use site::{Site, code_of};
 pub use statements::{apply, change_by_stmt, change_by_stmts, value_after};
 pub use tables::{FunctionTable, Place, PointState, Tables, Verdict};
-
-#[cfg(test)]
-mod bounds_tests;
-#[cfg(test)]
-mod tests;

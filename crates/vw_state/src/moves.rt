@@ -12,9 +12,9 @@ ghost use Rattle.vw_domain.specs.Statements.{small, moved_by, moved, lea_offset_
 ghost use Rattle.vw_state.specs.Context.{equation_site};
 
 use crate::Site;
-use crate::registers::{displacement, known_of, word_of};
+use crate::registers::{displacement, known_of};
 use vw_domain::State;
-use vw_insn::{Base, Mem, Reg, Width};
+use vw_insn::{Base, Mem, Reg, Width, word_of};
 use vw_lattice::Lattice;
 use vw_stack::Offset;
 use vw_stmt::Var;

@@ -9,11 +9,10 @@ ghost use Rattle.vw_domain.specs.Registers.{IsWithin, OffsetFits};
 ghost use Rattle.vw_state.specs.Addresses.{address_view, told_by};
 ghost use Rattle.vw_state.specs.Context.{Context, IsSite, site_at, equation_site};
 
-use crate::registers::{register_number, word_of};
 use crate::{Address, Site};
 use vw_calls::{EntryRef, entry_of};
 use vw_domain::State;
-use vw_insn::{Base, Mem};
+use vw_insn::{Base, Mem, word_of};
 use vw_stack::Offset;
 use vw_values::{Bounds, Value, Via};
 
@@ -320,23 +319,14 @@ fn by_parts(site: &Site, next: u32, mem: &Mem, state: &State) -> Address
     match mem.base {
         Base::Rip => by_next(site, next, mem.disp),
         Base::None => match mem.index {
-            Some((index, scale)) => {
-                by_index_alone(site, state, register_number(index), scale, mem.disp)
-            }
+            Some((index, scale)) => { by_index_alone(site, state, index.number(), scale, mem.disp) }
             None => Address::Unknown,
         },
         Base::Reg(base) => match mem.index {
             Some((index, scale)) => {
-                by_index(
-                    site,
-                    state,
-                    register_number(base),
-                    register_number(index),
-                    scale,
-                    mem.disp,
-                )
+                by_index(site, state, base.number(), index.number(), scale, mem.disp)
             }
-            None => at_register(site, state, register_number(base), mem.disp),
+            None => at_register(site, state, base.number(), mem.disp),
         },
     }
 }

@@ -1,5 +1,4 @@
 ghost use Rattle.std.specs.Prelude.{◌≡◌, ◌<◌, ℕ, None, List};
-ghost use Rattle.vw_insn.specs.Words.{number, word_of};
 ghost use Rattle.vw_values.specs.Values.{IsValue, IsAmong};
 ghost use Rattle.vw_domain.specs.Abstract.{abstract_of};
 ghost use Rattle.vw_domain.specs.Addresses.{value_of};
@@ -10,18 +9,10 @@ ghost use Rattle.vw_domain.specs.Registers.{IsRegister};
 ghost use Rattle.vw_domain.specs.State.{Fits, plain_register};
 
 use vw_domain::{Register, State};
-use vw_insn::{Mem, Reg};
+use vw_insn::{Mem, word_of};
 use vw_stack::Offset;
 use vw_stmt::{Operand, Var};
 use vw_values::Value;
-
-// The number of a register.
-pub fn register_number(reg: Reg) -> u8
-    ensures number { result ≡ number reg }
-    ensures below { result < 16 }
-{
-    reg as u8
-}
 
 // A register's number; tmp counts as number 16.
 pub fn number_of(var: Var) -> u8
@@ -29,16 +20,9 @@ pub fn number_of(var: Var) -> u8
     ensures below { result < 17 }
 {
     match var {
-        Var::Reg(reg) => register_number(reg),
+        Var::Reg(reg) => reg.number(),
         Var::Tmp => 16,
     }
-}
-
-// A signed number as a word.
-pub fn word_of(number: i32) -> u64
-    ensures { result ≡ word_of number }
-{
-    i64::from(number).cast_unsigned()
 }
 
 // A memory operand's displacement.

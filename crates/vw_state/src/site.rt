@@ -3,6 +3,7 @@ ghost use Rattle.vw_rows.specs.Numbers.{IsBytes};
 ghost use Rattle.vw_state.specs.Code.{code_at};
 
 use vw_image::Image;
+use vw_rows::as_bytes;
 use vw_values::{Bounds, TableList};
 
 /// A function of an image, with what its equations read of the module.
@@ -40,12 +41,4 @@ pub fn code_of(image: &Image, entry: u64, size: u32) -> &[u8]
     ensures bytes { IsBytes result.now }
 {
     as_bytes(image.bytes_at(entry, size as u64).unwrap_or(&[]))
-}
-
-// The same bytes, each below 256.
-pub(crate) fn as_bytes(bytes: &[u8]) -> &[u8]
-    ensures same { result.now ≡ bytes.now }
-    ensures bytes { IsBytes result.now }
-{
-    bytes
 }

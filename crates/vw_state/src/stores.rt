@@ -14,10 +14,11 @@ ghost use Rattle.vw_values.specs.Narrowing.{narrow32};
 ghost use Rattle.vw_state.specs.Addresses.{address_view};
 
 use crate::puts::state_form;
-use crate::registers::{number_of, operand_known, word_of};
+use crate::registers::{number_of, operand_known};
 use crate::{Address, Site};
 use vw_bits::OutOfMemory;
 use vw_domain::{Content, State};
+use vw_insn::word_of;
 use vw_stmt::Operand;
 use vw_values::{Value, low_bits_are_sound, narrow32};
 

@@ -14,3 +14,4 @@ pub mod SmallRanks
 pub mod GreaterValues
 pub mod Meets
 pub mod Refining
+pub mod PlacedBounds

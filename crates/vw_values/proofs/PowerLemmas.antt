@@ -105,6 +105,12 @@ power-member i h =
     let same : 1 * 2 ^ i ≡ 2 ^ i = omega arith in
     subst (λ x. IsMember (doublings 34 1) x) same member
 
+-- the powers are among the members of each set of bounds
+pub power-among : (ms : List ℕ) (k : ℕ) → IsBounds ms → IsMember powers k → IsMember ms k
+power-among ms k bounds within =
+    let is = powers-are k within in
+    subst (λ x. IsMember ms x) (sym is.2) (bounds.powers is.0 (omega (arith, is.1)))
+
 -- where there is no power the number is above them all
 pub pow-none-below : (k : ℕ) → pow k ≡ None → 2 ^ 33 < k
 pow-none-below k none = first-none k powers none (2 ^ 33) (power-member 33 (omega arith))

@@ -7,7 +7,7 @@ use Rattle.std.proofs.lemmas.Option.{slice_get-get_or, slice_get_past}
 use Rattle.vw_values.specs.Bounds.{first_from, IsMember, IsAscending, IsBounds, IsLeastFrom}
 use Rattle.vw_values.proofs.UpLemmas.{first-here, first-later, first-is-up, first-none}
 
-member-at : (ms : List ℕ) (j d : ℕ) → j < length ms → IsMember ms (get_or ms j d)
+pub member-at : (ms : List ℕ) (j d : ℕ) → j < length ms → IsMember ms (get_or ms j d)
 member-at [] j d within = absurd (omega arith)
 member-at (m ∷ ms) zero d within = inl refl
 member-at (m ∷ ms) (suc j) d within = inr (member-at ms j d (omega arith))
