@@ -5,8 +5,8 @@ use Rattle.vw_domain.specs.declared.parts.Parts.{Parts}
 use Rattle.vw_state.specs.declared.jumps.JumpTable.{JumpTable}
 use Rattle.vw_state.specs.Context.{Context}
 use Rattle.vw_state.specs.Laws.{tick_limit}
-use Rattle.vw_graph.specs.Course.{IsNextRound}
-use Rattle.vw_graph.specs.Jumps.{pairs_of}
+use Rattle.vw_graph.specs.search.Course.{IsNextRound}
+use Rattle.vw_graph.specs.search.Jumps.{pairs_of}
 use Rattle.vw_graph.specs.Rounds.{WithinRounds, first_begins}
 use Rattle.vw_graph.proofs.Distinct.{distinct, are_distinct, distinct_has, distinct_from, distinct_at_most}
 use Rattle.vw_graph.proofs.Members.{distinct_fewer}

@@ -17,8 +17,8 @@ use Rattle.vw_state.specs.Context.{Context, code_of}
 use Rattle.vw_state.specs.Post.{jump_table, form_behind}
 use Rattle.vw_graph.specs.declared.walk.Look.{Look}
 use Rattle.vw_graph.specs.declared.walk.Look.TheVariants.{Passes, Jumps, Stops}
-use Rattle.vw_graph.specs.Jumps.{slot_at, PutsSlot, Tells, JumpsBy, AreSlots}
-use Rattle.vw_graph.specs.Walks.{PassesAt, LeavesBehind, FindsThrough, FindsBehind, FindsAt, PassesHere}
+use Rattle.vw_graph.specs.search.Jumps.{slot_at, PutsSlot, Tells, JumpsBy, AreSlots}
+use Rattle.vw_graph.specs.search.Walks.{PassesAt, LeavesBehind, FindsThrough, FindsBehind, FindsAt, PassesHere}
 use Rattle.vw_graph.proofs.Targets.{goes, passes}
 
 -- ---- at an instruction

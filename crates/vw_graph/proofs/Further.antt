@@ -8,7 +8,7 @@ use Rattle.vw_solver.specs.Seed.{AreDistinct}
 use Rattle.vw_solver.proofs.Waiting.{Waits, waits_insert, waits_still, waits_from}
 use Rattle.vw_state.specs.declared.jumps.JumpTable.{JumpTable}
 use Rattle.vw_state.specs.Context.{Context}
-use Rattle.vw_graph.specs.Jumps.{slot_at, LeadsFurther, LeadsNoFurther, AreNew}
+use Rattle.vw_graph.specs.search.Jumps.{slot_at, LeadsFurther, LeadsNoFurther, AreNew}
 use Rattle.vw_graph.proofs.Members.{contains_head, contains_tail, contains_none, contains_cases}
 
 waits_of : (xs : List ℕ) (p : ℕ) → Contains xs p → Waits xs p

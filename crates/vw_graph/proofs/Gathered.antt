@@ -7,7 +7,7 @@ use Rattle.vw_solver.specs.Solution.{state_at}
 use Rattle.vw_domain.specs.declared.parts.Parts.{Parts}
 use Rattle.vw_state.specs.declared.tables.PointState.{PointState}
 use Rattle.vw_state.specs.Tables.{state_of, RisesWithin}
-use Rattle.vw_graph.specs.Solved.{gather, held}
+use Rattle.vw_graph.specs.search.Solved.{gather, held}
 
 -- ---- point by point
 

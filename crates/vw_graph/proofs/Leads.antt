@@ -14,7 +14,7 @@ use Rattle.vw_state.specs.declared.jumps.JumpTable.{JumpTable}
 use Rattle.vw_state.specs.declared.site.Site.{Site}
 use Rattle.vw_state.specs.Context.{Context, IsSite}
 use Rattle.vw_state.specs.Post.{entry_target, with_target, targets_from}
-use Rattle.vw_graph.specs.Jumps.{LeadsTo, AreMarked, LeadsBeyond, LeadsFurther, LeadsNoFurther}
+use Rattle.vw_graph.specs.search.Jumps.{LeadsTo, AreMarked, LeadsBeyond, LeadsFurther, LeadsNoFurther}
 use Rattle.vw_graph.proofs.Members.{contains_head, contains_tail, contains_none, contains_cases}
 
 -- ---- one entry

@@ -18,7 +18,7 @@ use Rattle.vw_state.specs.Laws.{EdgesRise, EdgesAreValid}
 use Rattle.vw_state.specs.Post.{seconds, PostBy, PostWith, edges_by, edges_with}
 use Rattle.vw_state.specs.Tables.{state_of}
 use Rattle.vw_state.specs.Solution.{Lands, SolvesWith, IsLower, IsLeastWith}
-use Rattle.vw_graph.specs.Solved.{gather}
+use Rattle.vw_graph.specs.search.Solved.{gather}
 use Rattle.vw_graph.proofs.Gathered.{gathered, gather_rises}
 use Rattle.vw_graph.proofs.StandingLemmas.{Keeps, standing_good}
 

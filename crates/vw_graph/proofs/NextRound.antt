@@ -22,11 +22,11 @@ use Rattle.vw_state.specs.Rounds.{JumpsTo, AreJumps, AreDistinct, IsRound, first
 use Rattle.vw_state.specs.Solution.{Lands, SolvesWith, IsLeastWith}
 use Rattle.vw_state.specs.Tables.{AllFit}
 use Rattle.vw_graph.specs.declared.all_rounds.Rounds.TheVariants.{Stable, Stopped}
-use Rattle.vw_graph.specs.Course.{IsSolvedWith, IsSeedWith, IsInRound, IsNextRound}
-use Rattle.vw_graph.specs.Jumps.{slot_at, pairs_of, AreSame, JumpsBy, AreSlots, LeadsTo, AreNew}
+use Rattle.vw_graph.specs.search.Course.{IsSolvedWith, IsSeedWith, IsInRound, IsNextRound}
+use Rattle.vw_graph.specs.search.Jumps.{slot_at, pairs_of, AreSame, JumpsBy, AreSlots, LeadsTo, AreNew}
 use Rattle.vw_graph.specs.Rounds.{IsRounds, IsBegun, first_begins, next_begins, WithinRounds}
-use Rattle.vw_graph.specs.Solved.{gather, NoneStops, StopsFirst}
-use Rattle.vw_graph.specs.Walks.{AllFitIn}
+use Rattle.vw_graph.specs.search.Solved.{gather, NoneStops, StopsFirst}
+use Rattle.vw_graph.specs.search.Walks.{AllFitIn}
 use Rattle.vw_graph.proofs.Distinct.{distinct, are_distinct, distinct_has, distinct_from}
 use Rattle.vw_graph.proofs.EdgesMore.{with_more}
 use Rattle.vw_graph.proofs.Gathered.{gathered, gather_all}

@@ -6,7 +6,7 @@ use Rattle.std.proofs.lemmas.List.{append-nil}
 use Rattle.vw_state.specs.declared.jumps.JumpTable.{JumpTable}
 use Rattle.vw_state.specs.Context.{Context}
 use Rattle.vw_state.specs.Post.{seconds, table_targets}
-use Rattle.vw_graph.specs.Jumps.{slot_at, pairs_to, pairs_from, pairs_of, LeadsTo}
+use Rattle.vw_graph.specs.search.Jumps.{slot_at, pairs_to, pairs_from, pairs_of, LeadsTo}
 use Rattle.vw_graph.proofs.Members.{seconds_has, seconds_from}
 
 seconds_both : (at : ℕ) (xs ys : List (ℕ × ℕ)) → seconds at (xs ++ ys) ≡ seconds at xs ++ seconds at ys

@@ -11,7 +11,7 @@ use Rattle.vw_domain.specs.State.{IsValidState, state_below, entry_state, state_
 use Rattle.vw_state.specs.Context.{Context}
 use Rattle.vw_state.specs.Laws.{EdgesRise, EdgesAreValid, EdgesGrow, tick_limit, height_limit}
 use Rattle.vw_state.specs.Post.{edges_with}
-use Rattle.vw_graph.specs.Course.{IsSolvedWith, IsSeedWith}
+use Rattle.vw_graph.specs.search.Course.{IsSolvedWith, IsSeedWith}
 use Rattle.vw_graph.proofs.Heights.{heights, counted}
 
 -- a function in its module, with pairs

@@ -7,7 +7,7 @@ use Rattle.std.proofs.lemmas.List.Elements.{All-contains}
 use Rattle.vw_lattice.specs.Order.{IsJoin}
 use Rattle.vw_solver.specs.Solution.{state_at}
 use Rattle.vw_solver.specs.Standing.{reaches, joins, IsTable, at_first, at_visit, at_landing, at_skip, IsStanding}
-use Rattle.vw_solver.specs.Tables.{table_sum, is_empty, empties}
+use Rattle.vw_solver.specs.search.Tables.{table_sum, is_empty, empties}
 use Rattle.vw_graph.proofs.Members.{contains_head, contains_tail, contains_none}
 use Rattle.vw_solver.proofs.Search.{same_state, state_within, table_sum_set, at_same, at_other}
 

@@ -12,12 +12,12 @@ use Rattle.vw_state.specs.Laws.{HasSites, EdgesRise, EdgesAreValid, tick_limit}
 use Rattle.vw_graph.specs.declared.all_rounds.Rounds.TheVariants.{Stable, Stopped}
 use Rattle.vw_graph.specs.declared.round.Step.TheVariants.{Ends}
 use Rattle.vw_graph.specs.declared.walk.Walk.{Walk}
-use Rattle.vw_graph.specs.Course.{IsSeedWith, IsSolvedWith, IsInRound, IsNextRound, IsTableOf, LeadsOn, IsStep}
-use Rattle.vw_graph.specs.Graphs.{IsGraph}
-use Rattle.vw_graph.specs.Jumps.{pairs_of, HasSlots, AreSlots, AreNew}
+use Rattle.vw_graph.specs.search.Course.{IsSeedWith, IsSolvedWith, IsInRound, IsNextRound, IsTableOf, LeadsOn, IsStep}
+use Rattle.vw_graph.specs.search.Graphs.{IsGraph}
+use Rattle.vw_graph.specs.search.Jumps.{pairs_of, HasSlots, AreSlots, AreNew}
 use Rattle.vw_graph.specs.Rounds.{WithinRounds}
-use Rattle.vw_graph.specs.Solved.{NoneStops, StopsFirst}
-use Rattle.vw_graph.specs.Walks.{AllFitIn, FindsIn}
+use Rattle.vw_graph.specs.search.Solved.{NoneStops, StopsFirst}
+use Rattle.vw_graph.specs.search.Walks.{AllFitIn, FindsIn}
 use Rattle.vw_graph.proofs.Least.{Are, Only}
 use Rattle.vw_graph.proofs.Members.{contains_head}
 use Rattle.vw_graph.proofs.NextRound.{Stay, Few, all_fit, solved_fit, stopped, stable, next_seed, within_next, next}

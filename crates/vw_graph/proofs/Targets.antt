@@ -16,7 +16,7 @@ use Rattle.vw_domain.specs.Calls.{after_call}
 use Rattle.vw_domain.specs.Statements.{finish}
 use Rattle.vw_image.specs.Image.{Contents}
 use Rattle.vw_rows.specs.Numbers.{IsBytes}
-use Rattle.vw_graph.specs.Graphs.{IsGraph}
+use Rattle.vw_graph.specs.search.Graphs.{IsGraph}
 use Rattle.vw_state.specs.declared.site.Site.{Site}
 use Rattle.vw_state.specs.Code.{code_at, StandsAlone}
 use Rattle.vw_state.specs.Context.{Context, code_of, site_at, IsSite}

@@ -1,8 +1,8 @@
 ghost use Rattle.std.specs.Prelude.{◌≡◌, ◌+◌};
 ghost use Rattle.vw_state.specs.Context.{context_of};
 ghost use Rattle.vw_state.specs.Post.{edges_with};
-ghost use Rattle.vw_graph.specs.Graphs.{IsGraph};
-ghost use Rattle.vw_graph.specs.Jumps.{pairs_of};
+ghost use Rattle.vw_graph.specs.search.Graphs.{IsGraph};
+ghost use Rattle.vw_graph.specs.search.Jumps.{pairs_of};
 ghost use Rattle.std.proofs.Common.{rules};
 
 use crate::jumps::slot;
@@ -31,8 +31,8 @@ pub(crate) struct Graph<'a> {
 impl<'a> Model for Graph<'a> {
     ghost use Rattle.std.specs.Prelude.{ℕ, List};
     ghost use Rattle.vw_state.specs.Context.{Context, context_of};
-    ghost use Rattle.vw_graph.specs.Graphs.{IsGraph};
-    ghost use Rattle.vw_graph.specs.Jumps.{pairs_of};
+    ghost use Rattle.vw_graph.specs.search.Graphs.{IsGraph};
+    ghost use Rattle.vw_graph.specs.search.Jumps.{pairs_of};
 
     ghost Value = { Context × List (ℕ × ℕ) };
 

@@ -2,7 +2,7 @@
 
 ghost use Rattle.std.specs.Prelude.{◌≡◌, ℕ, ◌<◌, ◌≤◌, length, Option, Some, IfOk, OnOk, IfSome, ◌⊎◌, ◌+◌, ◌^◌, MatchBool, slice_index_or};
 ghost use Rattle.vw_state.specs.Context.{Context, IsSite};
-ghost use Rattle.vw_graph.specs.Jumps.{slot_at, HasSlots, PutsSlot, AreMarked, LeadsBeyond, LeadsFurther, LeadsNoFurther, LeadsTo, AreNew};
+ghost use Rattle.vw_graph.specs.search.Jumps.{slot_at, HasSlots, PutsSlot, AreMarked, LeadsBeyond, LeadsFurther, LeadsNoFurther, LeadsTo, AreNew};
 
 use std::alloc::Global;
 use std::collections::BTreeSet;

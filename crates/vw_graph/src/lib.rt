@@ -11,6 +11,3 @@ mod walk;
 
 pub use all_rounds::Rounds;
 pub use round::{rounds, rounds_at};
-
-#[cfg(test)]
-mod tests;

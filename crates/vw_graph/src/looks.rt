@@ -4,7 +4,7 @@ ghost use Rattle.std.specs.Prelude.{◌≡◌, ◌+◌, ◌^◌, ◌<◌, ◌≤
 ghost use Rattle.vw_insn.specs.Listed.{IsListed};
 ghost use Rattle.vw_domain.specs.State.{Fits};
 ghost use Rattle.vw_state.specs.Context.{Context, IsSite, code_of};
-ghost use Rattle.vw_graph.specs.Walks.{FindsThrough, FindsBehind, FindsAt};
+ghost use Rattle.vw_graph.specs.search.Walks.{FindsThrough, FindsBehind, FindsAt};
 
 use crate::walk::Look;
 use std::alloc::Global;

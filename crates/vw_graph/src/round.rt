@@ -6,11 +6,11 @@ ghost use Rattle.vw_state.specs.declared.jumps.JumpTable.{JumpTable};
 ghost use Rattle.vw_state.specs.Context.{context_of, IsSite};
 ghost use Rattle.vw_state.specs.Laws.{tick_limit};
 ghost use Rattle.vw_state.specs.Tables.{AllFit};
-ghost use Rattle.vw_graph.specs.Graphs.{IsGraph};
-ghost use Rattle.vw_graph.specs.Jumps.{pairs_of, HasSlots, AreSlots};
-ghost use Rattle.vw_graph.specs.Course.{IsSolvedWith, IsSeedWith, IsInRound, IsTableOf, LeadsOn, IsStep};
+ghost use Rattle.vw_graph.specs.search.Graphs.{IsGraph};
+ghost use Rattle.vw_graph.specs.search.Jumps.{pairs_of, HasSlots, AreSlots};
+ghost use Rattle.vw_graph.specs.search.Course.{IsSolvedWith, IsSeedWith, IsInRound, IsTableOf, LeadsOn, IsStep};
 ghost use Rattle.vw_graph.specs.Rounds.{IsRounds, WithinRounds, last_table};
-ghost use Rattle.vw_graph.specs.Solved.{NoneStops};
+ghost use Rattle.vw_graph.specs.search.Solved.{NoneStops};
 
 use crate::Rounds;
 use crate::graph::Graph;

@@ -1,5 +1,5 @@
 ghost use Rattle.std.specs.Prelude.{◌≡◌, ◌++◌, length, IfOk, OnOk};
-ghost use Rattle.vw_graph.specs.Solved.{gather, held};
+ghost use Rattle.vw_graph.specs.search.Solved.{gather, held};
 
 use std::alloc::Global;
 use vw_bits::{List, OutOfMemory};

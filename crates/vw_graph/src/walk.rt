@@ -2,8 +2,8 @@
 
 ghost use Rattle.std.specs.Prelude.{◌≡◌, ◌+◌, ◌^◌, ◌<◌, ◌≤◌, length, IfOk, MatchOption};
 ghost use Rattle.vw_state.specs.Context.{Context, IsSite, code_of};
-ghost use Rattle.vw_graph.specs.Jumps.{HasSlots};
-ghost use Rattle.vw_graph.specs.Walks.{AllFitIn, StopsHere, PassesHere, KeepsSlots, FindsIn};
+ghost use Rattle.vw_graph.specs.search.Jumps.{HasSlots};
+ghost use Rattle.vw_graph.specs.search.Walks.{AllFitIn, StopsHere, PassesHere, KeepsSlots, FindsIn};
 
 use crate::jumps::put;
 use crate::looks::look_at;

@@ -5,7 +5,7 @@ use Rattle.std.proofs.lemmas.Bool.Decides.{nat_tests}
 use Rattle.std.proofs.lemmas.List.{same_lists, length-map, get_or-map, get_or_default, get_or-set_same, get_or-set_other, get_or_past, length-set, length_push, get_or_append_left, get_or_push, get_or-replicate, length-replicate}
 use Rattle.std.proofs.lemmas.List.Elements.{All-replicate, All-set, All-weaker}
 use Rattle.vw_solver.specs.Solution.{state_at}
-use Rattle.vw_solver.specs.Places.{state_in, states_by, placed_count, ArePlaces}
+use Rattle.vw_solver.specs.search.Places.{state_in, states_by, placed_count, ArePlaces}
 
 pub length-states_by : {S : Type 0} (places : List ℕ) (states : List (Option S)) → length (states_by places states) ≡ length places
 length-states_by {S} places states = length-map places (state_in states)

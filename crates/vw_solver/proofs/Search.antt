@@ -10,9 +10,9 @@ use Rattle.std.proofs.lemmas.List.{get_or_append_left, get_or_push, length_push,
 use Rattle.std.proofs.lemmas.List.Elements.{All-contains, All-contains_itself, All-weaker}
 use Rattle.vw_solver.specs.Solution.{state_at, IsCovered, IsSolution, IsLower, IsLeast, IsReached, HoldsReachedPoints, weight_from, weight_of, weights_from}
 use Rattle.vw_solver.specs.Standing.{LandsOne, reaches, joins, IsTable, at_first, at_visit, at_landing, at_skip, RanksAtMost}
-use Rattle.vw_solver.specs.Landing.{AllValid, AllHaveStates, Lands, kept, raised, reached, LandsAll, none, more, Visits, stay, visit}
-use Rattle.vw_solver.specs.Visited.{Visited, VisitsFailed}
-use Rattle.vw_solver.specs.Tables.{table_sum, held_rank, is_empty, ranks, empties}
+use Rattle.vw_solver.specs.search.Landing.{AllValid, AllHaveStates, Lands, kept, raised, reached, LandsAll, none, more, Visits, stay, visit}
+use Rattle.vw_solver.specs.search.Visited.{Visited, VisitsFailed}
+use Rattle.vw_solver.specs.search.Tables.{table_sum, held_rank, is_empty, ranks, empties}
 use Rattle.vw_solver.proofs.Waiting.{Waits, total, total_insert, length_insert, waits_insert, waits_still, waits_from, all_from_waits, waits_from_all}
 
 -- ---- items of a list

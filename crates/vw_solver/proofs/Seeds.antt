@@ -5,7 +5,7 @@ use Rattle.std.proofs.Math.Nat.{mul-le-mul_left}
 use Rattle.std.proofs.lemmas.List.{get_or-set_other}
 use Rattle.std.proofs.lemmas.List.Elements.{All-contains}
 use Rattle.vw_solver.specs.Solution.{state_at, IsCovered}
-use Rattle.vw_solver.specs.Tables.{table_sum}
+use Rattle.vw_solver.specs.search.Tables.{table_sum}
 use Rattle.vw_solver.specs.Seed.{IsSeed, AreDistinct}
 use Rattle.vw_solver.proofs.Search.{Progress, cost, table_sum_set, state_within}
 use Rattle.vw_solver.proofs.Waiting.{Waits, total}

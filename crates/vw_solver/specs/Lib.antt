@@ -1,9 +1,6 @@
 pub mod Solution
 pub mod Rising
-pub mod Landing
-pub mod Visited
-pub mod Tables
 pub mod Chains
 pub mod Standing
 pub mod Seed
-pub mod Places
+pub mod search

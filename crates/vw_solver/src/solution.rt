@@ -4,9 +4,9 @@ ghost use Rattle.vw_solver.specs.Solution.{state_at, IsLeast, HoldsReachedPoints
 ghost use Rattle.vw_solver.specs.Rising.{AreRising};
 ghost use Rattle.vw_solver.specs.Standing.{IsTable, RanksAtMost};
 ghost use Rattle.vw_solver.specs.Seed.{HasSeed, GrownFrom, TicksFrom, BoundFrom};
-ghost use Rattle.vw_solver.specs.Landing.{AllValid, AllHaveStates, Visits};
-ghost use Rattle.vw_solver.specs.Visited.{Visited, VisitsCounted, VisitsFailed};
-ghost use Rattle.vw_solver.specs.Tables.{empties};
+ghost use Rattle.vw_solver.specs.search.Landing.{AllValid, AllHaveStates, Visits};
+ghost use Rattle.vw_solver.specs.search.Visited.{Visited, VisitsCounted, VisitsFailed};
+ghost use Rattle.vw_solver.specs.search.Tables.{empties};
 
 use crate::lands::land_all;
 use crate::{Edges, Equations, Solved, Steps};

@@ -16,7 +16,7 @@ use Rattle.vw_state.specs.Rounds.{IsRound, first_round, next_round, IsStable, Is
 use Rattle.vw_checks.specs.Safe.{NoneFails, IsSafeTable}
 use Rattle.vw_verdict.specs.declared.function.Finding.TheVariants as finding
 use Rattle.vw_verdict.specs.Places.{fails}
-use Rattle.vw_verdict.specs.Findings.{EndsStable, Found, FirstFailing}
+use Rattle.vw_verdict.specs.search.Findings.{EndsStable, Found, FirstFailing}
 
 pub same_function : (functions lent : List Function) (n : ℕ) (read f : Function) → lent ≡ functions → read ≡ get_or lent n read → slice_get functions n ≡ Some f → read ≡ f
 same_function functions lent n read f same is is_f =

@@ -18,7 +18,7 @@ use Rattle.vw_checks.specs.Safe.{IsSafeTable, HasSafeTable}
 use Rattle.vw_checks.specs.Modules.{IsNumbered, TablesOf}
 use Rattle.vw_verdict.specs.Places.{IsPlaceIn}
 use Rattle.vw_verdict.specs.Verdicts.{IsVerdict}
-use Rattle.vw_verdict.specs.Findings.{Found, Keeps, AreKept}
+use Rattle.vw_verdict.specs.search.Findings.{Found, Keeps, AreKept}
 use Rattle.vw_verdict.proofs.NoPlace.{RoundsPass, StopsAreChecks, no_place}
 
 tables_more : (Holds : Context → List PointState → Type 0) (m : Module) (functions : List Function) (tables : List FunctionTable) (f : Function) (t : FunctionTable)

@@ -1,4 +1,4 @@
 pub mod Places
 pub mod Verdicts
 pub mod Ticks
-pub mod Findings
+pub mod search

@@ -3,7 +3,7 @@ ghost use Rattle.vw_layout.specs.declared.functions.Function.{Function};
 ghost use Rattle.vw_layout.specs.Layout.{IsWhole};
 ghost use Rattle.vw_state.specs.Context.{context_of, IsSite};
 ghost use Rattle.vw_state.specs.Tables.{RisesWithin};
-ghost use Rattle.vw_verdict.specs.Findings.{FirstFailing};
+ghost use Rattle.vw_verdict.specs.search.Findings.{FirstFailing};
 
 use std::alloc::Global;
 use vw_bits::OutOfMemory;

@@ -4,7 +4,7 @@ ghost use Rattle.vw_layout.specs.declared.functions.Function.{Function};
 ghost use Rattle.vw_layout.specs.Layout.{IsWhole};
 ghost use Rattle.vw_state.specs.Context.{context_of, extent_of, lengths_of, IsSite};
 ghost use Rattle.vw_graph.specs.Rounds.{WithinRounds};
-ghost use Rattle.vw_verdict.specs.Findings.{Found, EndsStable};
+ghost use Rattle.vw_verdict.specs.search.Findings.{Found, EndsStable};
 
 use crate::failing::first_failing;
 use std::alloc::Global;

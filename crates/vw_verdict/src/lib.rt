@@ -7,6 +7,3 @@ mod function;
 mod module;
 
 pub use module::{find_place, judge};
-
-#[cfg(test)]
-mod tests;

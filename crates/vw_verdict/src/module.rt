@@ -1,6 +1,6 @@
 ghost use Rattle.std.specs.Prelude.{◌-◌, ◌≤◌, IfOk, OnOk};
 ghost use Rattle.vw_layout.specs.Layout.{IsWhole};
-ghost use Rattle.vw_verdict.specs.Findings.{IsJudged, Keeps};
+ghost use Rattle.vw_verdict.specs.search.Findings.{IsJudged, Keeps};
 ghost use Rattle.vw_verdict.specs.Ticks.{SumWithin};
 ghost use Rattle.vw_verdict.specs.Verdicts.{IsVerdict, IsJudgement};
 

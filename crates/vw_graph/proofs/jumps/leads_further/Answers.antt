@@ -1,7 +1,7 @@
 use Rattle.std.proofs.Common.{Option, sym, subst}
 use Rattle.std.specs.Prelude.{MatchBool}
 use Rattle.vw_state.specs.declared.jumps.JumpTable.{JumpTable}
-use Rattle.vw_graph.specs.Jumps.{LeadsFurther, LeadsNoFurther}
+use Rattle.vw_graph.specs.search.Jumps.{LeadsFurther, LeadsNoFurther}
 use Rattle.vw_graph.proofs.Leads.{some_context, marks_at_most, further_by}
 use Rattle.vw_graph.proofs.jumps.leads_further.Goals as goal
 

@@ -1,6 +1,6 @@
 use Rattle.std.proofs.Common.{Option, subst}
 use Rattle.vw_state.specs.declared.jumps.JumpTable.{JumpTable}
-use Rattle.vw_graph.specs.Jumps.{slot_at, LeadsFurther, LeadsNoFurther}
+use Rattle.vw_graph.specs.search.Jumps.{slot_at, LeadsFurther, LeadsNoFurther}
 use Rattle.vw_graph.proofs.Further.{no_further_point, further_point}
 use Rattle.vw_graph.proofs.jumps.look_further.Goals as goal
 

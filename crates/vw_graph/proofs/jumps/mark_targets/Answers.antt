@@ -1,6 +1,6 @@
 use Rattle.std.proofs.Common.{◌≡◌, ◌∙◌, ℕ, length, Option, sym, subst, arith}
 use Rattle.vw_state.specs.declared.jumps.JumpTable.{JumpTable}
-use Rattle.vw_graph.specs.Jumps.{AreMarked}
+use Rattle.vw_graph.specs.search.Jumps.{AreMarked}
 use Rattle.vw_graph.proofs.Leads.{AreMarkedBelow, target_inside, site_target, some_inside, one_marked, all_marked}
 use Rattle.vw_graph.proofs.jumps.mark_targets.Goals as goal
 

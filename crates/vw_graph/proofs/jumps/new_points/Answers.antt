@@ -1,5 +1,5 @@
 use Rattle.std.proofs.Common.{◌≡◌, ◌∙◌, ℕ, ◌+◌, subst, arith}
-use Rattle.vw_graph.specs.Jumps.{AreNew}
+use Rattle.vw_graph.specs.search.Jumps.{AreNew}
 use Rattle.vw_graph.proofs.jumps.new_points.Goals as goal
 
 pub loop-point-preserved : goal.loop-point-preserved

@@ -1,6 +1,6 @@
 use Rattle.std.proofs.Common.{◌≡◌, ℕ, ◌≤◌, length}
 use Rattle.vw_state.specs.Context.{Context, IsSite}
-use Rattle.vw_graph.specs.Jumps.{AreNew}
+use Rattle.vw_graph.specs.search.Jumps.{AreNew}
 use Rattle.vw_graph.proofs.Leads.{mark_at}
 use Rattle.vw_graph.proofs.jumps.new_points.Given as goal
 

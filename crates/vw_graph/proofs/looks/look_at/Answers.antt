@@ -2,7 +2,7 @@ use Rattle.std.proofs.Common.{◌≡◌, ◌+◌, ℕ, List, sym, subst, arith}
 use Rattle.vw_state.specs.Checks.{lacks_code}
 use Rattle.vw_state.specs.Code.{NothingAt, StandsAlone}
 use Rattle.vw_state.specs.Context.{Context, IsSite, code_of}
-use Rattle.vw_graph.specs.Walks.{FindsBehind, FindsAt}
+use Rattle.vw_graph.specs.search.Walks.{FindsBehind, FindsAt}
 use Rattle.vw_graph.proofs.Finds.{behind_at, if_ok_map}
 use Rattle.vw_graph.proofs.looks.look_at.Goals as goal
 

@@ -5,8 +5,8 @@ use Rattle.vw_state.specs.declared.site.Site.{Site}
 use Rattle.vw_state.specs.Code.{code_at}
 use Rattle.vw_state.specs.Context.{Context, context_of, IsSite}
 use Rattle.vw_graph.specs.declared.round.Step.{Step}
-use Rattle.vw_graph.specs.Course.{IsInRound, IsStep}
-use Rattle.vw_graph.specs.Graphs.{IsGraph}
+use Rattle.vw_graph.specs.search.Course.{IsInRound, IsStep}
+use Rattle.vw_graph.specs.search.Graphs.{IsGraph}
 use Rattle.vw_graph.proofs.Fewer.{fewer_left, first_within}
 use Rattle.vw_graph.proofs.round.all_rounds.Goals as goal
 

@@ -1,6 +1,6 @@
 use Rattle.std.proofs.Common.{◌≤◌}
 use Rattle.vw_state.specs.Context.{context_of}
-use Rattle.vw_graph.specs.Course.{IsInRound}
+use Rattle.vw_graph.specs.search.Course.{IsInRound}
 use Rattle.vw_graph.proofs.Fewer.{left}
 use Rattle.vw_graph.proofs.round.all_rounds.Given as goal
 

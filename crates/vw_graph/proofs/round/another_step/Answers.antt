@@ -3,8 +3,8 @@ use Rattle.vw_rows.specs.Numbers.{IsBytes}
 use Rattle.vw_state.specs.declared.jumps.JumpTable.{JumpTable}
 use Rattle.vw_state.specs.Context.{Context, context_of, code_of}
 use Rattle.vw_state.specs.Laws.{HasSites}
-use Rattle.vw_graph.specs.Course.{IsSeedWith, IsSolvedWith}
-use Rattle.vw_graph.specs.Jumps.{pairs_of}
+use Rattle.vw_graph.specs.search.Course.{IsSeedWith, IsSolvedWith}
+use Rattle.vw_graph.specs.search.Jumps.{pairs_of}
 use Rattle.vw_graph.proofs.StepOfRound.{seeds, keeps_within, goes_on}
 use Rattle.vw_graph.proofs.Targets.{site_bytes}
 use Rattle.vw_graph.proofs.round.another_step.Goals as goal

@@ -6,7 +6,7 @@ use Rattle.vw_domain.specs.declared.parts.Parts.{Parts}
 use Rattle.vw_domain.specs.State.{IsValidState, state_below}
 use Rattle.vw_state.specs.Context.{Context, context_of, code_of}
 use Rattle.vw_state.specs.Laws.{HasSites}
-use Rattle.vw_graph.specs.Course.{IsInRound}
+use Rattle.vw_graph.specs.search.Course.{IsInRound}
 use Rattle.vw_graph.proofs.Finds.{if_ok_three}
 use Rattle.vw_graph.proofs.NextRound.{first_in_round}
 use Rattle.vw_graph.proofs.Solving.{Equations, edges_of, rising, grown, ticks}

@@ -3,8 +3,8 @@ use Rattle.vw_rows.specs.Numbers.{IsBytes}
 use Rattle.vw_domain.specs.State.{entry_state}
 use Rattle.vw_state.specs.Context.{Context, context_of, code_of}
 use Rattle.vw_state.specs.Laws.{HasSites}
-use Rattle.vw_graph.specs.Course.{IsSolvedWith}
-use Rattle.vw_graph.specs.Jumps.{pairs_of}
+use Rattle.vw_graph.specs.search.Course.{IsSolvedWith}
+use Rattle.vw_graph.specs.search.Jumps.{pairs_of}
 use Rattle.vw_graph.proofs.Finds.{if_ok_map}
 use Rattle.vw_graph.proofs.Solving.{Equations, rising, grown, ticks, seed, has_seed}
 use Rattle.vw_graph.proofs.Targets.{site_bytes}

@@ -5,11 +5,11 @@ use Rattle.vw_state.specs.Context.{Context, context_of, code_of}
 use Rattle.vw_state.specs.Laws.{HasSites}
 use Rattle.vw_graph.specs.declared.walk.Walk.{Walk}
 use Rattle.vw_graph.specs.declared.walk.Walk.TheVariants.{Passes}
-use Rattle.vw_graph.specs.Course.{IsInRound, IsStep}
-use Rattle.vw_graph.specs.Jumps.{HasSlots}
+use Rattle.vw_graph.specs.search.Course.{IsInRound, IsStep}
+use Rattle.vw_graph.specs.search.Jumps.{HasSlots}
 use Rattle.vw_graph.specs.Rounds.{WithinRounds}
-use Rattle.vw_graph.specs.Solved.{StopsFirst}
-use Rattle.vw_graph.specs.Walks.{FindsIn, KeepsSlots}
+use Rattle.vw_graph.specs.search.Solved.{StopsFirst}
+use Rattle.vw_graph.specs.search.Walks.{FindsIn, KeepsSlots}
 use Rattle.vw_graph.proofs.NextRound.{within_now}
 use Rattle.vw_graph.proofs.StepOfRound.{stops, finds_in, fit_in, has_points}
 use Rattle.vw_graph.proofs.Targets.{site_bytes}

@@ -3,8 +3,8 @@ use Rattle.vw_rows.specs.Numbers.{IsBytes}
 use Rattle.vw_state.specs.Context.{Context, context_of, code_of}
 use Rattle.vw_state.specs.Laws.{HasSites}
 use Rattle.vw_graph.specs.declared.round.Step.{Step}
-use Rattle.vw_graph.specs.Course.{IsInRound, IsStep}
-use Rattle.vw_graph.specs.Jumps.{AreNew}
+use Rattle.vw_graph.specs.search.Course.{IsInRound, IsStep}
+use Rattle.vw_graph.specs.search.Jumps.{AreNew}
 use Rattle.vw_graph.proofs.Finds.{if_ok_map}
 use Rattle.vw_graph.proofs.NextRound.{within_now}
 use Rattle.vw_graph.proofs.StepOfRound.{is_stable, new_in, slots_in, some_waits, none_waits}

@@ -1,6 +1,6 @@
 use Rattle.std.proofs.Common.{◌≡◌, ℕ, ◌≤◌, take}
 use Rattle.vw_solver.specs.Solution.{state_at}
-use Rattle.vw_graph.specs.Solved.{gather}
+use Rattle.vw_graph.specs.search.Solved.{gather}
 use Rattle.vw_graph.proofs.solved.point_states.Given as goal
 
 abbrev pub invariant-loop-point : goal.invariant-loop-point

@@ -1,6 +1,6 @@
 use Rattle.std.proofs.Common.{◌≡◌, ◌+◌, ◌<◌, ℕ, subst, arith}
 use Rattle.vw_solver.proofs.Search.{state_within}
-use Rattle.vw_graph.specs.Jumps.{AreSlots}
+use Rattle.vw_graph.specs.search.Jumps.{AreSlots}
 use Rattle.vw_graph.proofs.walk.walk_over.Goals as goal
 
 pub returns-clause-finds : goal.returns-clause-finds

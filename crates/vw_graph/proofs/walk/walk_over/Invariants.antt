@@ -1,7 +1,7 @@
 use Rattle.std.proofs.Common.{◌≡◌, ◌+◌}
 use Rattle.vw_state.specs.Context.{Context, IsSite, code_of}
-use Rattle.vw_graph.specs.Jumps.{HasSlots, AreSlots}
-use Rattle.vw_graph.specs.Walks.{NoneStopsBelow}
+use Rattle.vw_graph.specs.search.Jumps.{HasSlots, AreSlots}
+use Rattle.vw_graph.specs.search.Walks.{NoneStopsBelow}
 use Rattle.vw_graph.proofs.walk.walk_over.Given as goal
 
 abbrev pub invariant-loop-point : goal.invariant-loop-point

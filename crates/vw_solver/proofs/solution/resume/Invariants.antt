@@ -1,5 +1,5 @@
 use Rattle.std.proofs.Common.{◌-◌, ◌≤◌, ℕ, []}
-use Rattle.vw_solver.specs.Tables.{empties}
+use Rattle.vw_solver.specs.search.Tables.{empties}
 use Rattle.vw_solver.specs.Seed.{IsSeed, HasSeed}
 use Rattle.vw_solver.proofs.Search.{Progress}
 use Rattle.vw_solver.proofs.solution.resume.Given as goal

@@ -1,6 +1,6 @@
 use Rattle.std.proofs.Common.{◌≡◌, ◌+◌, ◌≤◌, ◌++◌, ◌∷◌, [], get_or, length, Some, sym, ◌∙◌, arith}
 use Rattle.std.proofs.lemmas.List.{get_or_default}
-use Rattle.vw_solver.specs.Places.{placed_count}
+use Rattle.vw_solver.specs.search.Places.{placed_count}
 use Rattle.vw_solver.proofs.PlaceLemmas.{placed_below, written, pushed, pushed_places}
 use Rattle.vw_solver.proofs.solved.put_at.Goals as goal
 

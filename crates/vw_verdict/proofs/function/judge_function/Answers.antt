@@ -2,7 +2,7 @@ use Rattle.std.proofs.Common.{refl, sym, subst}
 use Rattle.vw_state.specs.Context.{context_of}
 use Rattle.vw_verdict.specs.declared.function.Finding.{Finding}
 use Rattle.vw_verdict.specs.Places.{stops}
-use Rattle.vw_verdict.specs.Findings.{Found}
+use Rattle.vw_verdict.specs.search.Findings.{Found}
 use Rattle.vw_verdict.proofs.Functions.{same_function, site_is}
 use Rattle.vw_verdict.proofs.Steps.{no_steps}
 use Rattle.vw_verdict.proofs.function.judge_function.Goals as goal

@@ -3,7 +3,7 @@ use Rattle.vw_state.specs.declared.tables.PointState.{PointState}
 use Rattle.vw_state.specs.Context.{context_of}
 use Rattle.vw_state.specs.Tables.{RisesWithin}
 use Rattle.vw_verdict.specs.declared.function.Finding.{Finding}
-use Rattle.vw_verdict.specs.Findings.{Found}
+use Rattle.vw_verdict.specs.search.Findings.{Found}
 use Rattle.vw_verdict.proofs.Functions.{StableIsSafe, least_with, listed_at, found_failing, found_passing}
 use Rattle.vw_verdict.proofs.Modules.{numbered_at}
 use Rattle.vw_verdict.proofs.function.judge_table.Goals as goal

@@ -1,7 +1,7 @@
 use Rattle.std.proofs.Common.{◌≡◌, ◌<◌, ◌≤◌, List, length, ◌++◌, ◌∷◌, [], sym, ap, subst, arith}
 use Rattle.vw_layout.specs.Layout.{declared_functions}
 use Rattle.vw_state.specs.declared.tables.FunctionTable.{FunctionTable}
-use Rattle.vw_verdict.specs.Findings.{AreKept}
+use Rattle.vw_verdict.specs.search.Findings.{AreKept}
 use Rattle.vw_state.specs.Context.{context_of}
 use Rattle.vw_verdict.proofs.Functions.{listed_at}
 use Rattle.vw_verdict.proofs.Modules.{numbered_at, passed_more, judged_safe, judged_unsafe, none_kept, kept_more}

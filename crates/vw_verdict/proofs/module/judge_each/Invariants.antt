@@ -1,6 +1,6 @@
 use Rattle.std.proofs.Common.{◌-◌, List, length}
 use Rattle.vw_state.specs.declared.tables.FunctionTable.{FunctionTable}
-use Rattle.vw_verdict.specs.Findings.{AreKept}
+use Rattle.vw_verdict.specs.search.Findings.{AreKept}
 use Rattle.vw_verdict.proofs.Steps.{Going}
 use Rattle.vw_verdict.proofs.module.judge_each.Given as goal
 

@@ -7,7 +7,7 @@ use Rattle.vw_domain.specs.Abstract.{Abstract}
 use Rattle.vw_state.specs.declared.jumps.JumpTable.{JumpTable}
 use Rattle.vw_state.specs.Context.{Context, context_of, code_of}
 use Rattle.vw_state.specs.Post.{seconds, table_targets, edges_with}
-use Rattle.vw_graph.specs.Jumps.{slot_at, pairs_of}
+use Rattle.vw_graph.specs.search.Jumps.{slot_at, pairs_of}
 use Rattle.vw_graph.proofs.Leads.{leads_inside}
 use Rattle.vw_graph.proofs.PairsOf.{seconds_are}
 use Rattle.vw_graph.proofs.Solving.{Equations, edges_of}

@@ -1,5 +1,5 @@
 use Rattle.std.proofs.Common.{◌≡◌, ℕ, List, [], ◌∷◌, ◌++◌, replicate, Option, None, rules, ap, ◌∙◌}
-use Rattle.vw_solver.specs.Places.{states_by}
+use Rattle.vw_solver.specs.search.Places.{states_by}
 use Rattle.vw_solver.proofs.PlaceLemmas.{none_first}
 use Rattle.vw_solver.proofs.solved.Solved.new.Goals as goal
 

@@ -13,8 +13,8 @@ use Rattle.vw_graph.specs.declared.walk.Look.{Look}
 use Rattle.vw_graph.specs.declared.walk.Look.TheVariants.{Passes, Jumps, Stops}
 use Rattle.vw_graph.specs.declared.walk.Walk.{Walk}
 use Rattle.vw_graph.specs.declared.walk.Walk.TheVariants as walk
-use Rattle.vw_graph.specs.Jumps.{Tells, JumpsBy, HasSlots, AreSlots}
-use Rattle.vw_graph.specs.Solved.{NoneStops, StopsFirst}
+use Rattle.vw_graph.specs.search.Jumps.{Tells, JumpsBy, HasSlots, AreSlots}
+use Rattle.vw_graph.specs.search.Solved.{NoneStops, StopsFirst}
 
 -- no check of the graph fails at a point with a state
 abbrev pub PassesAt : Context → ℕ → Parts → Type 0

@@ -12,9 +12,9 @@ use Rattle.vw_state.specs.Rounds.{IsRound}
 use Rattle.vw_state.specs.Tables.{AllFit}
 use Rattle.vw_graph.specs.declared.round.Step.{Step}
 use Rattle.vw_graph.specs.declared.round.Step.TheVariants.{Ends, GoesOn}
-use Rattle.vw_graph.specs.Jumps.{pairs_of, AreSame, AreSlots, AreNew}
+use Rattle.vw_graph.specs.search.Jumps.{pairs_of, AreSame, AreSlots, AreNew}
 use Rattle.vw_graph.specs.Rounds.{IsRounds, last_table}
-use Rattle.vw_graph.specs.Solved.{gather, NoneStops}
+use Rattle.vw_graph.specs.search.Solved.{gather, NoneStops}
 
 -- the table is what the solver makes of the function's equations with these pairs
 abbrev pub IsSolvedWith : Context → List (ℕ × ℕ) → List (Option Parts) → Type 0

@@ -1,4 +1,0 @@
-use Rattle.vw_graph.proofs.tests.rounds_of_functions.Given as goal
-
-abbrev pub ghosts-first_rounds : goal.ghosts-first_rounds
-ghosts-first_rounds g a = record { name = a.blank.name; parts = a.blank.parts }
