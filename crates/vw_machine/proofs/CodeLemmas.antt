@@ -12,7 +12,7 @@ use Rattle.vw_bits.specs.declared.records.Segment.{Segment}
 use Rattle.vw_image.specs.Image.{Contents, IsImage, image_of, memory_byte, image_byte}
 use Rattle.vw_image.specs.Words.{bytes_at}
 use Rattle.vw_image.specs.Stubs.{in_executable}
-use Rattle.vw_image.specs.Bounds.{IsBounded, AreBounded}
+use Rattle.vw_bits.specs.Bounds.{IsBounded, AreBounded}
 use Rattle.vw_layout.specs.declared.functions.Function.{Function}
 use Rattle.vw_layout.specs.declared.layout.Module.{Module as Declared}
 use Rattle.vw_layout.specs.Layout.{IsModule, IsWhole, declared_functions}

@@ -15,7 +15,7 @@ use Rattle.vw_dynamic.specs.declared.dynamic.RelKind.TheVariants.{Based as Based
 use Rattle.vw_image.specs.declared.word.Word.TheVariants.{Plain, Mixed, Outside}
 use Rattle.vw_image.specs.Image.{Contents, image_byte, memory_byte, segment_byte, touches}
 use Rattle.vw_image.specs.Index.{kind_at}
-use Rattle.vw_image.specs.Words.{word_at, word_of, unrelocated_word, bytes_at}
+use Rattle.vw_image.specs.Words.{word_at, word_of_kind, unrelocated_word, bytes_at}
 use Rattle.vw_image.specs.Laws.{image_word}
 use Rattle.vw_machine.specs.declared.world.World.{World}
 use Rattle.vw_machine.specs.World.{Range, IsLaidOut, is_within, loaded_range}
@@ -84,11 +84,11 @@ unrelocated true u n h = h
 unrelocated false true n h = h
 unrelocated false false n h = h
 
-of_kind : (k : RelKind) → IsRelocated (word_of k)
+of_kind : (k : RelKind) → IsRelocated (word_of_kind k)
 of_kind (BasedKind to) = tt
 of_kind (BoundKind number) = tt
 
-some_found : (image : Contents) (b : ℕ) (o : Option Relocation) → IsRelocated (option_map_or word_of (option_map (λ r. r.kind) o) (unrelocated_word image b 8)) → (r : Relocation) × (o ≡ Some r)
+some_found : (image : Contents) (b : ℕ) (o : Option Relocation) → IsRelocated (option_map_or word_of_kind (option_map (λ r. r.kind) o) (unrelocated_word image b 8)) → (r : Relocation) × (o ≡ Some r)
 some_found image b None h = absurd (unrelocated _ _ _ h)
 some_found image b (Some r) h = (r, refl)
 

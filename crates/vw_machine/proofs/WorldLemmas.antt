@@ -7,7 +7,7 @@ use Rattle.vw_bits.specs.HeaderRules.{header_fault}
 use Rattle.vw_bits.specs.declared.records.Segment.{Segment}
 use Rattle.vw_dynamic.specs.Dynamic.{file_imports}
 use Rattle.vw_image.specs.Image.{Contents, IsImage, image_of}
-use Rattle.vw_image.specs.Bounds.{AreBounded}
+use Rattle.vw_bits.specs.Bounds.{AreBounded}
 use Rattle.vw_layout.specs.declared.layout.Module.{Module as Declared}
 use Rattle.vw_layout.specs.Layout.{IsWhole}
 use Rattle.vw_machine.specs.World.{Range, IsLaidOut, IsIn, AreApart, IsBelowTop, IsHostAddress, instance_ranges, loaded_range, usual_hosts, usual_instance}

@@ -33,6 +33,3 @@ pub use laws::{
 };
 pub use machine::{Frame, Machine};
 pub use world::World;
-
-#[cfg(test)]
-mod tests;

@@ -100,10 +100,10 @@ module _ (m : ModuleView) (w : World) (map : Map) (At : Function → ℕ → Reg
       })
       (chain_kept old new (λ q h. same q (omega (arith, waits.below))) chain)
 
-  -- which bytes the top activation has written is nothing to the chain
-  chain_marked : {top : Activation} {rest : List Activation} {es : List Registers} (bytes : Bytes) (written : ℕ → Bool) → Chain m w map At bytes entered (top ∷ rest) es → Chain m w map At bytes entered (record top { written = written } ∷ rest) es
-  chain_marked bytes written (host f) = host (record { rsp = f.rsp; back = f.back; return = f.return })
-  chain_marked bytes written (call waits chain) =
+  -- where the top activation was entered and which bytes it has written is nothing to the chain
+  chain_under : {top : Activation} {rest : List Activation} {es : List Registers} (bytes : Bytes) (entry : ℕ) (written : ℕ → Bool) → Chain m w map At bytes entered (top ∷ rest) es → Chain m w map At bytes entered (record top { entry = entry; written = written } ∷ rest) es
+  chain_under bytes entry written (host f) = host (record { rsp = f.rsp; back = f.back; return = f.return })
+  chain_under bytes entry written (call waits chain) =
       call
       (record {
         function = waits.function;
@@ -120,25 +120,10 @@ module _ (m : ModuleView) (w : World) (map : Map) (At : Function → ℕ → Reg
 
   pub chain_marking : (bytes : Bytes) {rest : List Activation} {es : List Registers} (ws : List Write) (top : Activation) → Chain m w map At bytes entered (top ∷ rest) es → Chain m w map At bytes entered (after_writes w top ws ∷ rest) es
   chain_marking bytes [] top c = c
-  chain_marking bytes (v ∷ ws) top c = chain_marking bytes ws (mark w top v.at v.size) (chain_marked bytes _ c)
+  chain_marking bytes (v ∷ ws) top c = chain_marking bytes ws (mark w top v.at v.size) (chain_under bytes top.entry (mark w top v.at v.size).written c)
 
-  -- nor is where it was entered
   pub chain_entry : {top : Activation} {rest : List Activation} {es : List Registers} (bytes : Bytes) (entry : ℕ) → Chain m w map At bytes entered (top ∷ rest) es → Chain m w map At bytes entered (record top { entry = entry } ∷ rest) es
-  chain_entry bytes entry (host f) = host (record { rsp = f.rsp; back = f.back; return = f.return })
-  chain_entry bytes entry (call waits chain) =
-      call
-      (record {
-        function = waits.function;
-        of_caller_function = waits.of_caller_function;
-        framed = waits.framed;
-        point = waits.point;
-        behind = waits.behind;
-        low = waits.low;
-        below = waits.below;
-        return = waits.return;
-        resumes = waits.resumes;
-      })
-      chain
+  chain_entry {top} bytes entry c = chain_under bytes entry top.written c
 
   -- a return address stands at rsp0
   pub back_at : {top : Activation} {rest : List Activation} {es : List Registers} (bytes : Bytes) → Chain m w map At bytes entered (top ∷ rest) es → load bytes top.rsp0 8 ≡ top.back

@@ -14,11 +14,8 @@ use Rattle.vw_machine.specs.Entered.{IsInitial}
 use Rattle.vw_sandbox.specs.Runs.{Reaches, begins, goes_on, RunsTo, of_runs}
 use Rattle.vw_sandbox.specs.Claims.{ReturnsKept, HasStep, IsPermitted, PassesHeap, KeepsRegisters}
 use Rattle.vw_sandbox.specs.Maps.{Map, KeepsToMap, IsSandboxedBy}
+use Rattle.vw_sandbox.specs.Gathered.{StandsAlone}
 use Rattle.vw_sandbox.specs.Sandboxed.{Onward, IsSafeStep, StaysSafe, StaysSandboxed}
-
--- at most one thing stands at rip
-abbrev pub StandsAlone : ModuleView → World → Type 0
-StandsAlone m w = (rip : ℕ) (active : List Activation) (one other : Here) → StandsAt m w rip active one → StandsAt m w rip active other → one ≡ other
 
 -- where a run goes on, it does not return wrongly
 pub returns_of : (entered : Registers) (Rest : MachineState → Type 0) (e : Ending) → Onward entered Rest e → ReturnsKept entered e

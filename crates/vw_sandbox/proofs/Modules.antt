@@ -12,7 +12,7 @@ use Rattle.vw_dynamic.specs.Dynamic.{dynamic_fault}
 use Rattle.vw_image.specs.Image.{Contents, IsImage, image_of, memory_byte, image_byte}
 use Rattle.vw_image.specs.Words.{bytes_at}
 use Rattle.vw_image.specs.Stubs.{in_executable}
-use Rattle.vw_image.specs.Bounds.{IsBounded, AreBounded}
+use Rattle.vw_bits.specs.Bounds.{IsBounded, AreBounded}
 use Rattle.vw_rows.specs.Numbers.{IsBytes}
 use Rattle.vw_layout.specs.declared.functions.Function.{Function}
 use Rattle.vw_layout.specs.Layout.{module_fault, layout_fault, IsModule, declared_functions}
@@ -23,15 +23,8 @@ use Rattle.vw_machine.specs.World.{Range}
 use Rattle.vw_machine.specs.Module.{ModuleView, module_of, bytes_from, segment_range}
 use Rattle.vw_machine.proofs.CodeLemmas.{IsFound, found_of}
 use Rattle.vw_machine.proofs.Lists.{any_of, and_both, Contains-map}
+use Rattle.vw_sandbox.specs.Gathered.{FileLaws}
 use Rattle.vw_sandbox.proofs.Instances.{all_of}
-
--- what the crates below say of files
-pub record Laws : Type 0 where
-  pub code : (file : List ℕ) (f : Function) → IsModule file → Contains (declared_functions file) f → IsCode file f
-  pub settled : (image : Contents) → IsImage image → (a n : ℕ) → in_executable image.segments a n ≡ true → (base : ℕ) (hosts : ℕ → ℕ) (b : ℕ) → a ≤ b → b < a + n → image_byte image base hosts b ≡ memory_byte image.bytes image.segments b
-  pub lent : (image : Contents) → IsImage image → (a n : ℕ) (bytes : List ℕ) → bytes_at image a n ≡ Some bytes → (k : ℕ) → k < n → slice_index bytes k ≡ memory_byte image.bytes image.segments (a + k)
-  pub bounded : (bytes : List ℕ) → header_fault bytes ≡ None → AreBounded (length bytes) (segments_of bytes)
-  pub sized : (file : List ℕ) (f : Function) → IsModule file → Contains (declared_functions file) f → length (code_at (image_of file) f.entry f.size) ≡ f.size
 
 both_none : {A : Type 0} (a b : Option A) → option_or a b ≡ None → (a ≡ None) × (b ≡ None)
 both_none None b none = (refl, none)
@@ -83,7 +76,7 @@ code_bytes {m} {f} {code} held w point (suc len) inside =
     let next : (f.entry + point) + 1 ≡ f.entry + (point + 1) = omega arith in
     rw (drop_more code point 0 here, held.byte w point here, next, code_bytes held w (point + 1) len (omega arith)) refl
 
-module _ (laws : Laws) (file : List ℕ) (is : IsModule file) (f : Function) (listed : Contains (declared_functions file) f) where
+module _ (laws : FileLaws) (file : List ℕ) (is : IsModule file) (f : Function) (listed : Contains (declared_functions file) f) where
   code : IsCode file f
   code = laws.code file f is listed
 

@@ -34,24 +34,11 @@ use Rattle.vw_machine.specs.Standing.{IsHostAt}
 use Rattle.vw_machine.specs.Step.{slot_word}
 use Rattle.vw_machine.specs.Permitted.{is_pointer as is_address}
 use Rattle.vw_sandbox.specs.Claims.{IsProbeStub}
-use Rattle.vw_sandbox.proofs.Choices.{StandsAlone}
 use Rattle.vw_sandbox.proofs.Instances.{image_low}
 use Rattle.vw_machine.proofs.Lists.{Contains-map}
-use Rattle.vw_sandbox.proofs.Modules.{Laws, holds_code}
+use Rattle.vw_sandbox.specs.Gathered.{ModuleLaws}
+use Rattle.vw_sandbox.proofs.Modules.{holds_code}
 use Rattle.vw_sandbox.proofs.SetUp.{IsInImage, IsCallable, IsSetUp}
-
--- what the crates below say of words, stubs and tables
-pub record Rules : Type 0 where
-  pub laws : Laws
-  pub images : (file : List ℕ) → IsModule file → IsImage (image_of file)
-  pub spelled : (image : Contents) → IsImage image → (a size : ℕ) → IsSize size → (base : ℕ) (hosts : ℕ → ℕ) → ((number : ℕ) → hosts number < 2 ^ 64) → Gives base hosts (word_at image a size) (image_word image base hosts a size)
-  pub numbered : (image : Contents) → IsImage image → (a size : ℕ) → IsNumbered (length image.imports) (word_at image a size)
-  pub probe : (image : Contents) (functions : List Function) (address : ℕ) → (call_target image functions address ≡ Some target.Probe) ↔ (is_probe_stub image address ≡ true)
-  pub some : (image : Contents) (functions : List Function) (address : ℕ) → is_some (call_target image functions address) ≡ (is_entry functions address || is_some (module_stub image functions address))
-  pub stub : (image : Contents) (functions : List Function) (address : ℕ) (stub : Stub) → module_stub image functions address ≡ Some stub → (stub_at image address ≡ Some stub) × (is_destination functions stub.to ≡ true)
-  pub pointer : (file : List ℕ) (t : TableInfo) (e : TableEntry) → IsModule file → Contains (declared_tables file) t → Contains t.entries e → e.tag ≢ 18446744073709551615 → is_pointer (image_of file) (declared_functions file) e.pointer ≡ true
-  pub entries : (file : List ℕ) (t : TableInfo) (e : TableEntry) → IsModule file → Contains (declared_tables file) t → Contains t.entries e → IsNumbered (length (file_imports file)) e.pointer
-  pub alone : (m : ModuleView) (w : World) → IsLaidOut m.image m.imports w → StandsAlone m w
 
 -- ---- lists and options
 
@@ -137,7 +124,7 @@ module _ (image : Contents) (place : ℕ) (stub : Stub) where
 among_low : (start size a n : ℕ) → is_among start size a n ≡ true → (start ≤ a) × (a + 1 ≤ start + size)
 among_low start size a n h = (grind (arith, nat_tests, h), grind (arith, nat_tests, h))
 
-module _ (rules : Rules) (file : List ℕ) (is : IsModule file) where
+module _ (rules : ModuleLaws) (file : List ℕ) (is : IsModule file) where
   abbrev image : Contents
   image = image_of file
 
@@ -290,11 +277,11 @@ module _ (rules : Rules) (file : List ℕ) (is : IsModule file) where
       pointer = λ table entry to listed of_table some at. pointer_is entry.pointer to (rules.pointer file table entry is listed of_table (not_empty entry.tag some)) (entry_numbered table entry listed of_table) at;
     }
 
-pub set_up : Rules → (file : List ℕ) → IsModule file → (w : World) → IsLaidOut (module_of file).image (module_of file).imports w → IsSetUp (module_of file) w
+pub set_up : ModuleLaws → (file : List ℕ) → IsModule file → (w : World) → IsLaidOut (module_of file).image (module_of file).imports w → IsSetUp (module_of file) w
 unfolding module_of
 set_up rules file is w laid = view_set_up rules file is w laid
 
 -- each function has a byte
-pub functions_have_bytes : Rules → (file : List ℕ) → IsModule file → (f : Function) → Contains (module_of file).functions f → 1 ≤ f.size
+pub functions_have_bytes : ModuleLaws → (file : List ℕ) → IsModule file → (f : Function) → Contains (module_of file).functions f → 1 ≤ f.size
 unfolding module_of
 functions_have_bytes rules file is f listed = (rules.laws.code file f is listed).some

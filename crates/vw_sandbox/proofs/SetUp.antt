@@ -17,7 +17,7 @@ use Rattle.vw_machine.specs.Step.{slot_word}
 use Rattle.vw_machine.specs.Permitted.{is_pointer}
 use Rattle.vw_sandbox.specs.Claims.{IsProbeStub}
 use Rattle.vw_sandbox.proofs.Instances.{all_of, host_elsewhere}
-use Rattle.vw_sandbox.proofs.Choices.{StandsAlone}
+use Rattle.vw_sandbox.specs.Gathered.{StandsAlone}
 
 -- n places from this one on lie in the memory of a segment
 pub record IsInImage (m : ModuleView) (place n : ℕ) : Type 0 where

@@ -26,11 +26,11 @@ use Rattle.vw_domain.specs.Soundness.{IsPlaced, IsMemory, HasTables, HasImage}
 use Rattle.vw_domain.specs.Stands.{Machine}
 use Rattle.vw_image.specs.declared.word.Word.{Word}
 use Rattle.vw_image.specs.declared.word.Word.TheVariants as word
-use Rattle.vw_image.specs.Bounds.{IsBounded, AreBounded}
+use Rattle.vw_bits.specs.Bounds.{IsBounded, AreBounded}
 use Rattle.vw_image.specs.Image.{Contents, IsImage, image_of, image_byte, memory_byte, touches}
 use Rattle.vw_image.specs.Index.{kind_at}
 use Rattle.vw_image.specs.Laws.{IsSize, Gives, image_word}
-use Rattle.vw_image.specs.Words.{in_readable, word_of, unrelocated_word, word_at, readable}
+use Rattle.vw_image.specs.Words.{in_readable, word_of_kind, unrelocated_word, word_at, readable}
 use Rattle.vw_image.proofs.Rules.{image-placed}
 use Rattle.vw_layout.specs.declared.tables.TableInfo.{TableInfo}
 use Rattle.vw_layout.specs.declared.tables.TableEntry.{TableEntry}
@@ -237,11 +237,11 @@ module _ (image : Contents) (is : IsImage image) where
   unfolding word_at
   settled a n h = by_size (n == 8) refl h
     where
-      by_kind : n ≡ 8 → (o : Option RelKind) → kind_at image.relocations a ≡ o → IsSettled (option_map_or word_of o (unrelocated_word image a n)) → IsInSegment image a n
+      by_kind : n ≡ 8 → (o : Option RelKind) → kind_at image.relocations a ≡ o → IsSettled (option_map_or word_of_kind o (unrelocated_word image a n)) → IsInSegment image a n
       by_kind eight None e h = unrelocated a n h
       by_kind eight (Some kind) e h = subst (IsInSegment image a) (sym eight) (relocated a kind e)
 
-      by_size : (b : Bool) → (n == 8) ≡ b → IsSettled (option_map_or word_of (if b then kind_at image.relocations a else None) (unrelocated_word image a n)) → IsInSegment image a n
+      by_size : (b : Bool) → (n == 8) ≡ b → IsSettled (option_map_or word_of_kind (if b then kind_at image.relocations a else None) (unrelocated_word image a n)) → IsInSegment image a n
       by_size true e h = by_kind (eqb-true n 8 e) (kind_at image.relocations a) refl h
       by_size false e h = unrelocated a n h
 

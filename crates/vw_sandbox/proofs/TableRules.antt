@@ -21,7 +21,8 @@ use Rattle.vw_sandbox.proofs.DomainLaws.{DomainLaws, LowersStandForLess}
 use Rattle.vw_sandbox.proofs.Instances.{image_low}
 use Rattle.vw_sandbox.proofs.Kept.{sandboxed_by}
 use Rattle.vw_sandbox.proofs.Modules.{headers_hold}
-use Rattle.vw_sandbox.proofs.Rules.{Rules, set_up, functions_have_bytes}
+use Rattle.vw_sandbox.specs.Gathered.{ModuleLaws}
+use Rattle.vw_sandbox.proofs.Rules.{set_up, functions_have_bytes}
 use Rattle.vw_sandbox.proofs.Sites.{SiteLaws}
 use Rattle.vw_sandbox.proofs.Stating.{StatementLaws, module_bytes, stated_kept}
 use Rattle.vw_sandbox.proofs.StubEntries.{no_stub_there}
@@ -58,7 +59,7 @@ file_bytes : (file : List ℕ) → IsBytes file → (a : ℕ) → slice_index (i
 unfolding image_of
 file_bytes file are = are
 
-module _ (rules : Rules) (statements : StatementLaws) (domain : DomainLaws) (sites : SiteLaws) (only : ReadsOnly) (none : ReadsNone) (file : List ℕ) (is : IsModule file) (bytes : IsBytes file) (bounds : Bounds) (tables : Tables) (map : Map)
+module _ (rules : ModuleLaws) (statements : StatementLaws) (domain : DomainLaws) (sites : SiteLaws) (only : ReadsOnly) (none : ReadsNone) (file : List ℕ) (is : IsModule file) (bytes : IsBytes file) (bounds : Bounds) (tables : Tables) (map : Map)
     (safe : AreSafe (declared_module file) bounds tables) (is_map : IsMapOf (declared_module file) bounds tables map) where
   headers : header_fault file ≡ None
   headers = (headers_hold file is).0

@@ -8,7 +8,7 @@ use Rattle.vw_bits.specs.HeaderRules.{header_fault}
 use Rattle.vw_bits.specs.declared.records.Segment.{Segment}
 use Rattle.vw_dynamic.specs.Dynamic.{file_imports}
 use Rattle.vw_image.specs.Image.{image_of}
-use Rattle.vw_image.specs.Bounds.{AreBounded}
+use Rattle.vw_bits.specs.Bounds.{AreBounded}
 use Rattle.vw_insn.specs.Words.{Registers}
 use Rattle.vw_insn.specs.declared.instruction.Insn.{Insn}
 use Rattle.vw_rows.specs.Spelling.{Spells}

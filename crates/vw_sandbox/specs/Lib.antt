@@ -6,3 +6,4 @@ pub mod Sandboxed
 pub mod Assertions
 pub mod Stated
 pub mod Tables
+pub mod Gathered

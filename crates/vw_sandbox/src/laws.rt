@@ -33,18 +33,13 @@ ghost use Rattle.vw_sandbox.specs.Maps.{Map, InsnKeepsToMap, IsSandboxedBy, entr
 ghost use Rattle.vw_sandbox.specs.Assertions.{Moment, AreKept};
 ghost use Rattle.vw_sandbox.specs.Stated.{AreStated};
 
-use vw_image::{
-    Word, code_is_settled, file_bytes_are_memory, segments_are_bounded, words_are_numbered,
-    words_spell,
-};
+use crate::gathered::{file_laws, module_laws};
+use vw_image::{Word, segments_are_bounded};
 use vw_insn::Insn;
-use vw_layout::{
-    call_targets_stand, entries_can_be_called, functions_are_code, functions_ascend,
-    imports_are_few,
-};
+use vw_layout::{functions_ascend, imports_are_few};
 use vw_lift::{effect_is_a_run, lists_are_in_form};
 use vw_machine::one_thing_stands;
-use vw_state::{code_has_its_size, functions_have_sites};
+use vw_state::functions_have_sites;
 use vw_stmt::words_stay;
 
 /// For each module there is an instance that is laid out well, and for each of its functions a state in which the
@@ -114,12 +109,8 @@ pub fn jump_entries_are_distances()
         → (x : ℕ) × (word_at (image_of file) (base + 4 * i) 4 ≡ Word.Plain x)
         × ((base + sign_extended x 4) % 2 ^ 64 ≡ f.entry + to) × (to < f.size) }
 {
-    functions_are_code();
+    file_laws();
     functions_have_sites();
-    code_is_settled();
-    file_bytes_are_memory();
-    segments_are_bounded();
-    code_has_its_size();
 }
 
 /// A step that returns to the host with rsp elsewhere than 8 above that at the entry, or with another rbx, rbp or r12 to
@@ -174,16 +165,7 @@ pub fn asserted_code_is_sandboxed<A: Assertions>()
         → AreKept (module_of file) w map (A.holds w))
         → IsSandboxedBy (module_of file) map }
 {
-    functions_are_code();
-    code_is_settled();
-    file_bytes_are_memory();
-    segments_are_bounded();
-    code_has_its_size();
-    words_spell();
-    words_are_numbered();
-    call_targets_stand();
-    entries_can_be_called();
-    one_thing_stands();
+    module_laws();
 }
 
 /// The same where what is asked speaks of the statements of instructions: where each run of an instruction's statements
@@ -194,16 +176,7 @@ pub fn stated_code_is_sandboxed<A: Assertions>()
         → AreStated (module_of file) w map (A.holds w))
         → IsSandboxedBy (module_of file) map }
 {
-    functions_are_code();
-    code_is_settled();
-    file_bytes_are_memory();
-    segments_are_bounded();
-    code_has_its_size();
-    words_spell();
-    words_are_numbered();
-    call_targets_stand();
-    entries_can_be_called();
-    one_thing_stands();
+    module_laws();
     effect_is_a_run();
     lists_are_in_form();
     words_stay();
@@ -216,16 +189,7 @@ pub fn returning_code_is_sandboxed()
         → Spells (bytes_from ((module_of file).byte w) f.entry 1) Insn.Ret)
         → IsSandboxedBy (module_of file) entries }
 {
-    functions_are_code();
-    code_is_settled();
-    file_bytes_are_memory();
-    segments_are_bounded();
-    code_has_its_size();
-    words_spell();
-    words_are_numbered();
-    call_targets_stand();
-    entries_can_be_called();
-    one_thing_stands();
+    module_laws();
 }
 
 /// Where nothing decodes at the entry of a declared function, no tables sandbox the module.
@@ -235,11 +199,8 @@ pub fn unspelled_code_is_not_sandboxed()
         → NothingAt (code_at (image_of file) f.entry f.size) 0
         → IsSandboxedBy (module_of file) map → ⊥ }
 {
-    functions_are_code();
+    file_laws();
     functions_ascend();
-    code_is_settled();
-    file_bytes_are_memory();
     segments_are_bounded();
     imports_are_few();
-    code_has_its_size();
 }

@@ -2,6 +2,7 @@
 //! code that runs.
 #![tactic(auto)]
 
+mod gathered;
 mod laws;
 mod state_laws;
 mod table_laws;

@@ -9,18 +9,16 @@ ghost use Rattle.vw_machine.specs.Module.{declared_module, module_of};
 ghost use Rattle.vw_sandbox.specs.Maps.{IsSandboxedBy};
 ghost use Rattle.vw_sandbox.specs.MapOf.{map_of};
 
+use crate::gathered::file_laws;
 use crate::table_laws::safe_states_are_sandboxed;
 use vw_checks::checks_are_conditions;
 use vw_decode::read_is_spelling;
 use vw_domain::{
     edges_are_decided, entry_is_state, forms_tell_states, state_forms_are_kept, states_have_forms,
 };
-use vw_image::{code_is_settled, file_bytes_are_memory, segments_are_bounded};
-use vw_layout::{call_targets_stand, functions_are_code, functions_ascend};
+use vw_layout::{call_targets_stand, functions_ascend};
 use vw_rows::spelled_is_listed;
-use vw_state::{
-    code_has_its_size, edges_are_post, functions_have_sites, statements_have_displacements,
-};
+use vw_state::{edges_are_post, functions_have_sites, statements_have_displacements};
 
 /// A module stays in its sandbox, and keeps to tables that are safe: the tables may be the least ones or others.
 pub fn safe_tables_are_sandboxed()
@@ -41,10 +39,6 @@ pub fn safe_tables_are_sandboxed()
     edges_are_decided();
     call_targets_stand();
     read_is_spelling();
-    functions_are_code();
     functions_ascend();
-    code_is_settled();
-    file_bytes_are_memory();
-    segments_are_bounded();
-    code_has_its_size();
+    file_laws();
 }

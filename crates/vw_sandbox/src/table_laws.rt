@@ -7,21 +7,15 @@ ghost use Rattle.vw_rows.specs.Numbers.{IsBytes};
 ghost use Rattle.vw_sandbox.specs.Maps.{Map, IsSandboxedBy};
 ghost use Rattle.vw_sandbox.specs.Tables.{Bounds, Tables, AreSafe, IsMapOf};
 
+use crate::gathered::module_laws;
 use vw_decode::read_is_spelling;
 use vw_domain::{
     branches_are_sound, calls_are_sound, instruction_ends_are_sound, laws_of_values,
     statement_lists_are_sound, statements_are_sound,
 };
-use vw_image::{
-    code_is_settled, file_bytes_are_memory, segments_are_bounded, words_are_numbered, words_spell,
-};
-use vw_layout::{
-    call_targets_stand, entries_are_words, entries_can_be_called, functions_are_code,
-    tables_are_data, tables_are_few,
-};
+use vw_image::{segments_are_bounded, words_spell};
+use vw_layout::{entries_are_words, entries_can_be_called, tables_are_data, tables_are_few};
 use vw_lift::{effect_is_a_run, lists_are_in_form};
-use vw_machine::one_thing_stands;
-use vw_state::code_has_its_size;
 use vw_stmt::words_stay;
 
 /// A module with safe tables of abstract states, for any bounds of values, stays in its sandbox and keeps to the
@@ -39,21 +33,15 @@ pub fn safe_states_are_sandboxed()
     instruction_ends_are_sound();
     branches_are_sound();
     calls_are_sound();
-    functions_are_code();
-    code_is_settled();
-    file_bytes_are_memory();
     segments_are_bounded();
-    code_has_its_size();
     read_is_spelling();
     words_spell();
-    words_are_numbered();
-    call_targets_stand();
     entries_can_be_called();
     entries_are_words();
     tables_are_few();
     tables_are_data();
-    one_thing_stands();
     effect_is_a_run();
     lists_are_in_form();
     words_stay();
+    module_laws();
 }

@@ -1,6 +1,7 @@
 use Rattle.vw_machine.specs.declared.world.World.{World}
 use Rattle.vw_machine.specs.World.{IsLaidOut}
-use Rattle.vw_sandbox.proofs.Choices.{StandsAlone, by_choices, by_states}
+use Rattle.vw_sandbox.specs.Gathered.{StandsAlone}
+use Rattle.vw_sandbox.proofs.Choices.{by_choices, by_states}
 use Rattle.vw_sandbox.proofs.laws.sandboxed_by_choices.Goals as goal
 
 pub returns : goal.returns

@@ -2,20 +2,15 @@ use Rattle.vw_image.specs.Image.{image_of}
 use Rattle.vw_layout.specs.Layout.{declared_functions}
 use Rattle.vw_state.specs.Code.{code_at}
 use Rattle.vw_machine.specs.Module.{module_of}
-use Rattle.vw_sandbox.proofs.Modules.{Laws, holds_code}
+use Rattle.vw_sandbox.specs.Gathered.{FileLaws}
+use Rattle.vw_sandbox.proofs.Modules.{holds_code}
 use Rattle.vw_sandbox.proofs.Witnesses.{limited, one_by_entry, not_sandboxed}
 use Rattle.vw_sandbox.proofs.laws.unspelled_code_is_not_sandboxed.Goals as goal
 
 pub returns : goal.returns
 unfolding module_of
 returns c file map f is listed nothing sandboxed =
-    let laws : Laws = record {
-      code = c.functions_are_code.ensures;
-      settled = c.code_is_settled.ensures;
-      lent = c.file_bytes_are_memory.ensures;
-      bounded = c.segments_are_bounded.ensures;
-      sized = c.code_has_its_size.ensures;
-    } in
+    let laws : FileLaws = c.file_laws.ensures in
     not_sandboxed (module_of file) map f (code_at (image_of file) f.entry f.size)
     (limited c.segments_are_bounded.ensures c.imports_are_few.ensures file is)
     (holds_code laws file is f listed)

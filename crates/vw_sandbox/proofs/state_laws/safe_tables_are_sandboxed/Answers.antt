@@ -7,7 +7,8 @@ use Rattle.vw_layout.specs.declared.layout.Module.{Module as Declared}
 use Rattle.vw_state.specs.Context.{code_of, context_of}
 use Rattle.vw_machine.specs.Module.{declared_module, module_of, view_of}
 use Rattle.vw_sandbox.specs.MapOf.{map_of}
-use Rattle.vw_sandbox.proofs.Modules.{Laws, HoldsCode, are_bytes, holds_code, ends_low}
+use Rattle.vw_sandbox.specs.Gathered.{FileLaws}
+use Rattle.vw_sandbox.proofs.Modules.{HoldsCode, are_bytes, holds_code, ends_low}
 use Rattle.vw_sandbox.proofs.StateTables.{bounds_of, forms_of, StateLaws, IsAlone, abstracts_are_safe, map_is}
 use Rattle.vw_sandbox.proofs.Witnesses.{one_by_entry}
 use Rattle.vw_sandbox.proofs.state_laws.safe_tables_are_sandboxed.Goals as goal
@@ -17,13 +18,7 @@ unfolding image_of module_of
 returns c file tables is bytes safe =
     let m : Declared = declared_module file in
     let whole : IsWhole m = record { rules = is; functions = refl; tables = refl; image = refl } in
-    let code : Laws = record {
-      code = c.functions_are_code.ensures;
-      settled = c.code_is_settled.ensures;
-      lent = c.file_bytes_are_memory.ensures;
-      bounded = c.segments_are_bounded.ensures;
-      sized = c.code_has_its_size.ensures;
-    } in
+    let code : FileLaws = c.file_laws.ensures in
     let states : StateLaws = record {
       posts = c.edges_are_post.ensures.are;
       sites = c.functions_have_sites.ensures;

@@ -1,6 +1,6 @@
+use Rattle.vw_sandbox.specs.Gathered.{ModuleLaws}
 use Rattle.vw_sandbox.proofs.DomainLaws.{DomainLaws}
 use Rattle.vw_sandbox.proofs.Modules.{is_image}
-use Rattle.vw_sandbox.proofs.Rules.{Rules}
 use Rattle.vw_sandbox.proofs.Sites.{SiteLaws}
 use Rattle.vw_sandbox.proofs.Stating.{StatementLaws}
 use Rattle.vw_sandbox.proofs.TableRules.{lowers_stand, tables_sandbox}
@@ -8,24 +8,7 @@ use Rattle.vw_sandbox.proofs.table_laws.safe_states_are_sandboxed.Goals as goal
 
 pub returns : goal.returns
 returns c file bounds tables map is bytes safe is_map =
-    let rules : Rules = record {
-      laws = record {
-        code = c.functions_are_code.ensures;
-        settled = c.code_is_settled.ensures;
-        lent = c.file_bytes_are_memory.ensures;
-        bounded = c.segments_are_bounded.ensures;
-        sized = c.code_has_its_size.ensures;
-      };
-      images = is_image;
-      spelled = c.words_spell.ensures;
-      numbered = c.words_are_numbered.ensures;
-      probe = c.call_targets_stand.ensures.probe;
-      some = c.call_targets_stand.ensures.some;
-      stub = c.call_targets_stand.ensures.stub;
-      pointer = c.entries_can_be_called.ensures.pointer;
-      entries = c.entries_can_be_called.ensures.numbered;
-      alone = λ m w laid rip active one other a b. c.one_thing_stands.ensures m w rip active one other laid a b;
-    } in
+    let rules : ModuleLaws = c.module_laws.ensures in
     let statements : StatementLaws = record { form = c.lists_are_in_form.ensures; run = c.effect_is_a_run.ensures; words = c.words_stay.ensures } in
     let domain : DomainLaws = record {
       stand = c.statements_are_sound.ensures.stand;
