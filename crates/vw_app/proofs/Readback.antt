@@ -9,7 +9,7 @@ use Rattle.std.proofs.lemmas.Option.{slice_get_within, get_or_from_slice_get}
 use Rattle.vw_bits.specs.Headers.{segments_of}
 use Rattle.vw_bits.specs.HeaderRules.{header_fault}
 use Rattle.vw_dynamic.specs.Dynamic.{dynamic_fault}
-use Rattle.vw_image.specs.Bounds.{IsBounded, AreBounded}
+use Rattle.vw_bits.specs.Bounds.{IsBounded, AreBounded}
 use Rattle.vw_layout.specs.declared.functions.Function.{Function}
 use Rattle.vw_layout.specs.declared.layout.Module.{Module}
 use Rattle.vw_layout.specs.Layout.{module_fault, layout_fault, IsModule, IsWhole, declared_functions}

@@ -11,13 +11,14 @@ ghost use Rattle.vw_app.specs.Check.{Checked, Rechecked, IsSandboxedByReport, lo
 use crate::limits::{LONGEST_FILE, LONGEST_REPORT};
 use crate::lines::{bad_report_text, malformed_text, read_fault_text, safe_text};
 use crate::status::Status;
-use crate::verdict::{as_bytes, place_text};
+use crate::verdict::place_text;
 use std::alloc::Global;
 use vw_bits::{List, OutOfMemory, Text};
 use vw_layout::{Module, ModuleError};
 use vw_outside::{ReadError, Shelf, read_all};
 use vw_recheck::recheck;
 use vw_report::{ReportError, read_report};
+use vw_rows::as_bytes;
 use vw_sandbox::safe_tables_are_sandboxed;
 use vw_state::Tables;
 

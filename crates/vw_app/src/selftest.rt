@@ -8,7 +8,7 @@ ghost use Rattle.vw_app.specs.Selftest.{made_file, number_of_states, IsTestedLin
 
 use crate::lines::{malformed_text, selftest_text};
 use crate::status::Status;
-use crate::verdict::{as_bytes, place_text, verdict_of};
+use crate::verdict::{place_text, verdict_of};
 use std::alloc::Global;
 use vw_bits::{OutOfMemory, Text};
 use vw_image::segments_are_bounded;
@@ -18,6 +18,7 @@ use vw_recheck::recheck;
 use vw_report::{
     ReportError, least_tables_are_of_points, read_report, texts_tell_tables, write_report,
 };
+use vw_rows::as_bytes;
 use vw_sandbox::safe_tables_are_sandboxed;
 use vw_state::{FunctionTable, Tables, Verdict};
 

@@ -1,5 +1,4 @@
 ghost use Rattle.std.specs.Prelude.{◌≡◌, ◌≢◌, ℕ, ◌<◌, IfOk};
-ghost use Rattle.vw_rows.specs.Numbers.{IsBytes};
 ghost use Rattle.vw_layout.specs.declared.functions.Function.{Function};
 ghost use Rattle.vw_layout.specs.Layout.{IsWhole};
 ghost use Rattle.vw_checks.specs.Modules.{IsNumbered};
@@ -17,6 +16,7 @@ use std::sync::ledger::{Blank, Ledger};
 use vw_bits::{OutOfMemory, Text};
 use vw_layout::{Module, functions_ascend};
 use vw_report::write_report;
+use vw_rows::as_bytes;
 use vw_sandbox::safe_tables_are_sandboxed;
 use vw_solver::Steps;
 use vw_state::{Place, Verdict};
@@ -129,12 +129,4 @@ fn name_at<'a>(loaded: &'a Module, entry: u64) -> &'a [u8]
         Some(number) => loaded.functions.as_slice()[number as usize].name.as_slice(),
         None => b"?",
     }
-}
-
-/// The same bytes, each below 256.
-pub fn as_bytes(bytes: &[u8]) -> &[u8]
-    ensures same { result.now ≡ bytes.now }
-    ensures bytes { IsBytes result.now }
-{
-    bytes
 }

@@ -4,21 +4,9 @@ use std::alloc::{AllocError, Global};
 use vw_insn::Width;
 use vw_values::{Value, Via};
 
-fn digit(b: u8) -> Option<u8> {
-    match b {
-        b'0'..=b'9' => Some(b - b'0'),
-        b'a'..=b'f' => Some(b - b'a' + 10),
-        _ => None,
-    }
-}
-
 /// A number in hexadecimal.
 pub fn number(text: &str) -> Option<u64> {
-    let mut value: u64 = 0;
-    for b in text.as_bytes() {
-        value = value.checked_mul(16)?.checked_add(u64::from(digit(*b)?))?;
-    }
-    Some(value)
+    u64::from_str_radix(text, 16).ok()
 }
 
 /// A width in bits, in decimal.

@@ -13,11 +13,7 @@ fn digit(b: u8) -> Option<u8> {
 
 /// A number in hexadecimal.
 pub fn number(text: &str) -> Option<u64> {
-    let mut value: u64 = 0;
-    for b in text.as_bytes() {
-        value = value.checked_mul(16)?.checked_add(u64::from(digit(*b)?))?;
-    }
-    Some(value)
+    u64::from_str_radix(text, 16).ok()
 }
 
 fn byte(pair: &[u8]) -> Option<u8> {
