@@ -1,36 +1,19 @@
 -- The parts of the written modules of the tests meet the bounds.
 use Rattle.std.proofs.Common.{ℕ, zero, suc, inl, ◌≤◌, List, [], ◌∷◌, Option, Some, None, length, refl, lit<, lit≤, arith}
-use Rattle.std.specs.List.{All, AllPairs, Contains}
+use Rattle.std.specs.List.{All, Contains}
 use Rattle.vw_make.specs.declared.parts.Parts.{Parts}
 use Rattle.vw_make.specs.declared.parts.Func.{Func}
 use Rattle.vw_make.specs.declared.parts.Target.TheVariants as target
 use Rattle.vw_make.specs.Bounds.{AreApart, EntryFits, FixFits, FuncFits, TableFits, BindFits, HasAtMost, MeetsBounds}
 use Rattle.vw_make.specs.Bytes.{rounded_up}
 use Rattle.vw_make.specs.Layout.{sizes_of, layout_from, file_size}
-
-all_none : {X : Type 0} (P : X → Type 0) → All P []
-all_none P k d inside = absurd (omega arith)
-
-all_one : {X : Type 0} (P : X → Type 0) (a : X) → P a → All P (a ∷ [])
-all_one P a p zero d inside = p
-all_one P a p (suc k) d inside = absurd (omega arith)
-
-all_two : {X : Type 0} (P : X → Type 0) (a b : X) → P a → P b → All P (a ∷ b ∷ [])
-all_two P a b p q zero d inside = p
-all_two P a b p q (suc zero) d inside = q
-all_two P a b p q (suc (suc k)) d inside = absurd (omega arith)
+use Rattle.vw_make.proofs.Sample.{all_none, all_one, all_two, pairs_none, pairs_one, pairs_two, imports, few}
 
 all_three : {X : Type 0} (P : X → Type 0) (a b c : X) → P a → P b → P c → All P (a ∷ b ∷ c ∷ [])
 all_three P a b c p q r zero d inside = p
 all_three P a b c p q r (suc zero) d inside = q
 all_three P a b c p q r (suc (suc zero)) d inside = r
 all_three P a b c p q r (suc (suc (suc k))) d inside = absurd (omega arith)
-
-pairs_none : {X : Type 0} (R : X → X → Type 0) → AllPairs R []
-pairs_none R i j d below inside = absurd (omega arith)
-
-pairs_one : {X : Type 0} (R : X → X → Type 0) (a : X) → AllPairs R (a ∷ [])
-pairs_one R a i j d below inside = absurd (omega arith)
 
 abbrev first : Func
 first = record { name = 102 ∷ []; code = 0x8B ∷ 0x87 ∷ 0 ∷ 0 ∷ 0 ∷ 0 ∷ 0xC3 ∷ []; fixes = [] }
@@ -40,9 +23,6 @@ second = record { name = 103 ∷ 103 ∷ []; code = 0x8B ∷ 0x47 ∷ 8 ∷ 0xC3
 
 abbrev third : Func
 third = record { name = 104 ∷ []; code = 0x0F ∷ 0x0B ∷ []; fixes = [] }
-
-abbrev imports : List (List ℕ)
-imports = (97 ∷ []) ∷ (98 ∷ 99 ∷ []) ∷ []
 
 abbrev two_entries : List (ℕ × Option ℕ)
 two_entries = (5, Some 1) ∷ (9, None) ∷ []
@@ -69,9 +49,6 @@ second_fits = record { name = lit≤ tt; code = lit≤ tt; fixes = all_none (Fix
 third_fits : FuncFits sample third
 third_fits = record { name = lit≤ tt; code = lit≤ tt; fixes = all_none (FixFits sample third); apart = pairs_none (AreApart 4) }
 
-few : HasAtMost 65536 imports
-few = record { different = imports; few = lit≤ tt; each = all_two (Contains imports) (97 ∷ []) (98 ∷ 99 ∷ []) (0, lit< tt, refl) (1, lit< tt, refl) }
-
 size : file_size sample ≤ 67108864
 unfolding sizes_of layout_from rounded_up
 size = lit≤ tt
@@ -94,14 +71,6 @@ sample_meets =
     }
 
 -- ---- a call through a table, and a switch
-
-pairs_two : {X : Type 0} (R : X → X → Type 0) (a b : X) → R a b → AllPairs R (a ∷ b ∷ [])
-pairs_two R a b r zero zero d below inside = absurd (omega (arith, below))
-pairs_two R a b r zero (suc zero) d below inside = r
-pairs_two R a b r zero (suc (suc j)) d below inside = absurd (omega (arith, inside))
-pairs_two R a b r (suc i) zero d below inside = absurd (omega (arith, below))
-pairs_two R a b r (suc i) (suc zero) d below inside = absurd (omega (arith, below))
-pairs_two R a b r (suc i) (suc (suc j)) d below inside = absurd (omega (arith, inside))
 
 abbrev caller : Func
 caller =

@@ -18,7 +18,7 @@ pub use fields::{Short, read_u16, read_u32, read_u64};
 pub use headers::{FileHeader, ProgramHeader, SectionHeader};
 pub use list::List;
 pub use memory::OutOfMemory;
-pub use places::{file_offset, is_among};
+pub use places::{bytes_at, file_offset, is_among};
 pub use records::{DynHeader, Segment, Symbol};
 pub use rights::Rights;
 pub use strings::short_string_at;

@@ -1,4 +1,4 @@
-ghost use Rattle.std.specs.Prelude.{◌≡◌, ◌^◌};
+ghost use Rattle.std.specs.Prelude.{◌≡◌, ◌^◌, ◌+◌, ◌≤◌, length, take, drop};
 ghost use Rattle.vw_bits.specs.Bounds.{AreBounded};
 ghost use Rattle.vw_bits.specs.Places.{is_among, file_offset};
 
@@ -24,4 +24,12 @@ pub fn file_offset(segments: &[Segment], address: u64, size: u64) -> Option<u64>
         }
     }
     None
+}
+
+/// The bytes of a file from an offset on, `size` of them, which the file holds.
+pub fn bytes_at(bytes: &[u8], offset: u64, size: u64) -> &[u8]
+    requires { offset + size ≤ length bytes.now }
+    ensures { result.now ≡ take size (drop offset bytes.now) }
+{
+    &bytes[offset as usize..(offset + size) as usize]
 }

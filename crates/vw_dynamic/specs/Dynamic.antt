@@ -32,14 +32,18 @@ entry_rules segments entries =
     ∷ offset_of (find (is_unplaced segments (directory_of entries)) entries)
     ∷ []
 
--- Rules 23 to 26, for the relocations.
-unfoldable pub rela_rules : List ℕ → List Segment → List ℕ → Option ℕ → List RelaEntry → List (Option ℕ)
-rela_rules bytes segments strings symtab relas =
+-- Rules 23 to 25, for the types and the places of the relocations.
+abbrev pub place_rules : List Segment → List RelaEntry → List (Option ℕ)
+place_rules segments relas =
     rela_offset (find (λ r. not (is_known r)) relas)
     ∷ rela_offset (find (is_misplaced segments) relas)
     ∷ rela_offset (first_overlap relas)
-    ∷ rela_offset (find (is_unresolved bytes segments strings symtab) relas)
     ∷ []
+
+-- Rules 23 to 26, for the relocations.
+unfoldable pub rela_rules : List ℕ → List Segment → List ℕ → Option ℕ → List RelaEntry → List (Option ℕ)
+rela_rules bytes segments strings symtab relas =
+    place_rules segments relas ++ rela_offset (find (is_unresolved bytes segments strings symtab) relas) ∷ []
 
 -- the entries of the first dynamic section; none where there is no section
 unfoldable pub entries_of : List ℕ → List Segment → List DynHeader → List Entry

@@ -1,9 +1,8 @@
-ghost use Rattle.std.specs.Prelude.{◌≡◌, ◌+◌, ◌≤◌, ◌*◌, ◌^◌, ◌++◌, not, length, filter, is_some, Some, None, All, IfOk};
-ghost use Rattle.std.specs.List.{find, list_any};
-ghost use Rattle.vw_bits.specs.Headers.{table};
+ghost use Rattle.std.specs.Prelude.{◌≡◌, ◌^◌, not, is_some, Some, None};
+ghost use Rattle.std.specs.List.{find};
 ghost use Rattle.vw_bits.specs.Bounds.{AreBounded};
 ghost use Rattle.vw_dynamic.specs.Entries.{offset_of};
-ghost use Rattle.vw_dynamic.specs.Directory.{value_of, directory_of, is_misfit, lacks_strings, is_unplaced, table_offset, items_at};
+ghost use Rattle.vw_dynamic.specs.Directory.{value_of, directory_of, is_misfit, lacks_strings, is_unplaced, table_offset};
 
 use crate::entries::Entry;
 use vw_bits::{Rela, Segment, file_offset};

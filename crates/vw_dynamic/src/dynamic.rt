@@ -12,7 +12,7 @@ ghost use Rattle.vw_dynamic.specs.declared.faults.DynError.TheVariants.{Fault};
 ghost use Rattle.vw_dynamic.specs.Entries.{section_entries, second_header};
 ghost use Rattle.vw_dynamic.specs.Directory.{directory_of};
 ghost use Rattle.vw_dynamic.specs.Targets.{is_unresolved, import_of, kind_of, imports_of, relocations_of};
-ghost use Rattle.vw_dynamic.specs.Dynamic.{section_rules, entry_rules, rela_rules, dynamic_fault, file_imports, file_relocations};
+ghost use Rattle.vw_dynamic.specs.Dynamic.{section_rules, entry_rules, place_rules, rules_behind, dynamic_fault, imports_in, relocations_in, file_imports, file_relocations};
 
 use crate::directory::{
     Directory, directory_of, first_misfit, first_unplaced, symbols_without_strings,
@@ -83,12 +83,7 @@ impl Dynamic {
             });
         }
         let entries = read_section(alloc, bytes, segments, &dynamics[0], &dynamics[1..])?;
-        let directory = check_entries(segments, entries.as_slice())?;
-        let relas = read_relas(alloc, bytes, segments, &directory).map_err(DynError::Memory)?;
-        let strings = strings_of(bytes, segments, &directory);
-        let symtab = directory.symtab;
-        let dynamic = bind(alloc, bytes, segments, strings, symtab, relas.as_slice())?;
-        Ok(dynamic)
+        read_tables(alloc, bytes, segments, entries.as_slice())
     }
 }
 
@@ -127,6 +122,31 @@ fn first_header(headers: &[DynHeader]) -> Option<u64>
     }
 }
 
+// Rules 18 to 26, for the entries of the section, and what the relocations resolve to that they name.
+fn read_tables(
+    alloc: Global,
+    bytes: &[u8],
+    segments: &[Segment],
+    entries: &[Entry],
+) -> Result<Dynamic, DynError>
+    requires inside { AreBounded (length bytes.now) segments.now }
+    requires few { length bytes.now ≤ 2 ^ 32 }
+    ensures ok { OnOk result (AllHold (rules_behind bytes.now segments.now entries.now)) }
+    ensures fault { IfErr result (Names (lowest_broken 18
+        (rules_behind bytes.now segments.now entries.now))) }
+    ensures relocations { IfOk result (λ dynamic. dynamic.relocations
+        ≡ relocations_in bytes.now segments.now (directory_of entries.now)) }
+    ensures imports { IfOk result (λ dynamic. dynamic.imports
+        ≡ imports_in bytes.now segments.now (directory_of entries.now)) }
+{
+    let directory = check_entries(segments, entries)?;
+    let strings = strings_of(bytes, segments, &directory);
+    let found = read_relas(alloc, bytes, segments, &directory).map_err(DynError::Memory)?;
+    let relas = found.as_slice();
+    check_relas(alloc, segments, relas)?;
+    resolve(alloc, bytes, segments, strings, directory.symtab, relas)
+}
+
 // Rules 18 to 22: what the entries name.
 fn check_entries(segments: &[Segment], entries: &[Entry]) -> Result<Directory, DynError>
     requires { AreBounded (2 ^ 64) segments.now }
@@ -143,32 +163,14 @@ fn check_entries(segments: &[Segment], entries: &[Entry]) -> Result<Directory, D
     Ok(directory)
 }
 
-// Rules 23 to 26, each relocation by itself and no two of one byte; and what the relocations resolve to.
-fn bind(
-    alloc: Global,
-    bytes: &[u8],
-    segments: &[Segment],
-    strings: &[u8],
-    symtab: Option<u64>,
-    relas: &[RelaEntry],
-) -> Result<Dynamic, DynError>
-    requires inside { AreBounded (length bytes.now) segments.now }
-    requires small { AreBounded (2 ^ 64) segments.now }
-    requires few { length relas.now + 1 < 2 ^ 32 }
-    ensures ok { OnOk result (AllHold
-        (rela_rules bytes.now segments.now strings.now symtab relas.now)) }
-    ensures fault { IfErr result (Names (lowest_broken 23
-        (rela_rules bytes.now segments.now strings.now symtab relas.now))) }
-    ensures imports { IfOk result (λ dynamic. dynamic.imports
-        ≡ imports_of bytes.now segments.now strings.now symtab relas.now) }
-    ensures relocations { IfOk result (λ dynamic. dynamic.relocations
-        ≡ relocations_of bytes.now segments.now strings.now symtab
-        (imports_of bytes.now segments.now strings.now symtab relas.now) relas.now) }
+// Rules 23 to 25, each relocation by itself and no two of one byte.
+fn check_relas(alloc: Global, segments: &[Segment], relas: &[RelaEntry]) -> Result<(), DynError>
+    ensures rules { OnOk result (AllHold (place_rules segments.now relas.now)) }
+    ensures fault { IfErr result (Names (lowest_broken 23 (place_rules segments.now relas.now))) }
 {
     refuse(23, first_unknown(relas))?;
     refuse(24, first_misplaced(segments, relas))?;
-    refuse(25, first_overlap(alloc, relas).map_err(DynError::Memory)?)?;
-    resolve(alloc, bytes, segments, strings, symtab, relas)
+    refuse(25, first_overlap(alloc, relas).map_err(DynError::Memory)?)
 }
 
 // What each relocation resolves to, in order, and none for type NONE, with the names of the imports, numbered by the

@@ -1,11 +1,11 @@
-ghost use Rattle.std.specs.Prelude.{◌≡◌, ◌+◌, ◌≤◌, ◌^◌, ◌==◌, ◌&&◌, ◌||◌, not, length, take, drop, Some, None, option_copied, if◌then◌else◌};
+ghost use Rattle.std.specs.Prelude.{◌≡◌, ◌^◌, ◌==◌, ◌&&◌, ◌||◌, not, length, Some, None, option_copied, if◌then◌else◌};
 ghost use Rattle.vw_bits.specs.Symbols.{symbol_type, is_defined};
 ghost use Rattle.vw_bits.specs.Bounds.{AreBounded};
 ghost use Rattle.vw_dynamic.specs.Targets.{strings_of, symbol_offset, symbol_of, name_at, adds_addend, defined_word};
 
 use crate::directory::{Directory, table_offset};
 use crate::relas::{R_64, RelaEntry};
-use vw_bits::{Segment, Sym, Symbol, file_offset, short_string_at};
+use vw_bits::{Segment, Sym, Symbol, bytes_at, file_offset, short_string_at};
 
 const STT_GNU_IFUNC: u8 = 10;
 
@@ -21,15 +21,8 @@ pub(crate) fn strings_of<'a>(
 {
     match table_offset(segments, directory.strtab, directory.strsz) {
         None => &[],
-        Some(offset) => part(bytes, offset, directory.strsz.unwrap_or(0)),
+        Some(offset) => bytes_at(bytes, offset, directory.strsz.unwrap_or(0)),
     }
-}
-
-fn part(bytes: &[u8], offset: u64, size: u64) -> &[u8]
-    requires { offset + size ≤ length bytes.now }
-    ensures { result.now ≡ take size (drop offset bytes.now) }
-{
-    &bytes[offset as usize..(offset + size) as usize]
 }
 
 // The symbol with an index other than 0, where its entry is in the file part.

@@ -7,7 +7,7 @@ ghost use Rattle.vw_elf.specs.SymbolSections.{symbol_sections};
 use crate::faults::refuse;
 use crate::header::check_header;
 use crate::sections::{broken_section_table, broken_symbol_section, read_symbol_sections};
-use crate::segments::{check_segments, read_dynamics, read_segments};
+use crate::segments::{check_segments, read_program_headers};
 use crate::{ElfError, SymbolSection};
 use std::alloc::Global;
 use vw_bits::{DynHeader, List, Segment};
@@ -35,13 +35,15 @@ impl Elf {
         ensures fault { IfErr result (Names (header_fault bytes.now)) }
     {
         let header = check_header(bytes)?;
-        let segments = read_segments(alloc, bytes, &header).map_err(ElfError::Memory)?;
+        let (segments, dynamics) = read_program_headers(alloc, bytes, &header).map_err(
+            ElfError::Memory,
+        )?;
         check_segments(segments.as_slice(), bytes.len() as u64)?;
         refuse(13, broken_section_table(bytes, &header))?;
         refuse(14, broken_symbol_section(bytes, &header))?;
         Ok(Elf {
             segments,
-            dynamics: read_dynamics(alloc, bytes, &header).map_err(ElfError::Memory)?,
+            dynamics,
             symbols: read_symbol_sections(alloc, bytes, &header).map_err(ElfError::Memory)?,
         })
     }

@@ -1,6 +1,6 @@
 ghost use Rattle.std.specs.Prelude.{◌≡◌, ◌+◌, ◌*◌, ◌≤◌, ◌==◌, length, not, Some, None, if◌then◌else◌, IfOk, IfErr, OnOk};
 ghost use Rattle.std.specs.List.{find, list_any};
-ghost use Rattle.vw_bits.specs.Headers.{p_type, e_phnum, e_phoff, segment_at, segments_of, dyn_header_at, dynamics_of, program_headers};
+ghost use Rattle.vw_bits.specs.Headers.{p_type, e_phnum, e_phoff, segment_at, segments_of, dyn_header_at, dynamics_of};
 ghost use Rattle.vw_bits.specs.Rules.{lowest_broken, AllHold};
 ghost use Rattle.vw_bits.specs.HeaderRules.{segment_fits, segments_clash, header_of, has_no_segment, first_page, last_page, first_clash, is_writable_code, segment_rules};
 ghost use Rattle.vw_elf.specs.Faults.{Names};
@@ -22,24 +22,29 @@ const MAX_ADDRESS: u64 = 0x8000_0000;
 
 const PAGE_SIZE: u64 = 4096;
 
-// The segments, in the order of their headers.
-pub(crate) fn read_segments(
+// The segments, and the headers of type PT_DYNAMIC, each in the order of their headers.
+pub(crate) fn read_program_headers(
     alloc: Global,
     bytes: &[u8],
     header: &FileHeader,
-) -> Result<List<Segment>, OutOfMemory>
+) -> Result<(List<Segment>, List<DynHeader>), OutOfMemory>
     requires header { IsHeaderOf bytes.now header.now }
     requires table { e_phoff bytes.now + 56 * e_phnum bytes.now ≤ length bytes.now }
-    ensures { IfOk result (λ segments. segments ≡ segments_of bytes.now) }
+    ensures segments { IfOk result (λ headers. headers.0 ≡ segments_of bytes.now) }
+    ensures dynamics { IfOk result (λ headers. headers.1 ≡ dynamics_of bytes.now) }
 {
     let mut segments = List::new(alloc);
+    let mut dynamics = List::new(alloc);
     for index in 0..header.e_phnum {
         let at = header.e_phoff + ProgramHeader::SIZE * index as u64;
         if let Some(segment) = segment_at(bytes, at) {
             segments.push(segment)?;
         }
+        if let Some(dynamic) = dyn_header_at(bytes, at) {
+            dynamics.push(dynamic)?;
+        }
     }
-    Ok(segments)
+    Ok((segments, dynamics))
 }
 
 #[tactic(auto, unfolding(vw_bits::specs::Headers::segment_at))]
@@ -59,26 +64,6 @@ fn segment_at(bytes: &[u8], at: u64) -> Option<Segment>
         rights: Rights::from_bits_retain((header.p_flags % 8) as u8),
         header_at: at,
     })
-}
-
-// The headers of type PT_DYNAMIC, in order.
-pub(crate) fn read_dynamics(
-    alloc: Global,
-    bytes: &[u8],
-    header: &FileHeader,
-) -> Result<List<DynHeader>, OutOfMemory>
-    requires header { IsHeaderOf bytes.now header.now }
-    requires table { e_phoff bytes.now + 56 * e_phnum bytes.now ≤ length bytes.now }
-    ensures { IfOk result (λ dynamics. dynamics ≡ dynamics_of bytes.now) }
-{
-    let mut dynamics = List::new(alloc);
-    for index in 0..header.e_phnum {
-        let at = header.e_phoff + ProgramHeader::SIZE * index as u64;
-        if let Some(dynamic) = dyn_header_at(bytes, at) {
-            dynamics.push(dynamic)?;
-        }
-    }
-    Ok(dynamics)
 }
 
 #[tactic(auto, unfolding(vw_bits::specs::Headers::dyn_header_at))]

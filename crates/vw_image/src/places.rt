@@ -1,4 +1,4 @@
-ghost use Rattle.std.specs.Prelude.{◌≡◌, ◌+◌, ◌≤◌, ◌&&◌, length, take, drop, true, Some, None, IfSome, option_copied, option_map, if◌then◌else◌};
+ghost use Rattle.std.specs.Prelude.{◌≡◌, ◌+◌, ◌≤◌, ◌&&◌, length, take, drop, true, Some, None, option_copied, option_map, if◌then◌else◌};
 ghost use Rattle.std.specs.List.{find};
 ghost use Rattle.vw_bits.specs.Fields.{load};
 ghost use Rattle.vw_bits.specs.Headers.{is_readable, is_executable};
@@ -9,7 +9,7 @@ ghost use Rattle.vw_image.specs.Image.{segment_byte, memory_byte};
 ghost use Rattle.vw_image.specs.Words.{in_readable};
 
 use bitflags::Flags;
-use vw_bits::{Rights, Segment, file_offset, is_among, read_u64};
+use vw_bits::{Rights, Segment, bytes_at, file_offset, is_among, read_u64};
 
 // The first segment with the right to read in whose memory a range is.
 pub(crate) fn readable_segment(segments: &[Segment], address: u64, size: u64) -> Option<&Segment>
@@ -38,14 +38,7 @@ pub(crate) fn file_bytes<'a>(
     ensures { option_copied result ≡ option_map (λ at. take size (drop at bytes.now)) (file_offset segments.now address size) }
 {
     let offset = file_offset(segments, address, size)?;
-    Some(part(bytes, offset, size))
-}
-
-fn part(bytes: &[u8], offset: u64, size: u64) -> &[u8]
-    requires { offset + size ≤ length bytes.now }
-    ensures { result.now ≡ take size (drop offset bytes.now) }
-{
-    &bytes[offset as usize..(offset + size) as usize]
+    Some(bytes_at(bytes, offset, size))
 }
 
 // The byte at an address of a segment: zero past the bytes that the file holds.

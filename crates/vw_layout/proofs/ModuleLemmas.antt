@@ -8,7 +8,7 @@ use Rattle.std.proofs.lemmas.List.Quantifiers.{position-Some}
 use Rattle.vw_bits.specs.declared.records.Segment.{Segment}
 use Rattle.vw_bits.specs.Headers.{segments_of}
 use Rattle.vw_bits.specs.HeaderRules.{header_fault}
-use Rattle.vw_bits.specs.Rules.{lowest_broken, AllHold}
+use Rattle.vw_bits.specs.Rules.{lowest_broken, AllHold, NamesBroken}
 use Rattle.vw_bits.proofs.RuleLemmas.{lowest-shift}
 use Rattle.vw_elf.specs.declared.sections.SymbolSection.{SymbolSection}
 use Rattle.vw_bits.specs.Bounds.{AreBounded}
@@ -65,12 +65,12 @@ unfolding functions_of
 functions_ascend bytes symbols = rw (entries_are bytes (by_address symbols)) (Rises-by_address symbols)
 
 -- a fault of the first rules, or of those behind them
-pub names_first : (first rest : Option (ℕ × ℕ)) (e : ModuleError) → Names first e → Names (option_or first rest) e
-names_first first rest (Malformed rule offset) names = rw names refl
-names_first first rest (Memory _) names = tt
+names_first : (first rest told : Option (ℕ × ℕ)) → NamesBroken first told → NamesBroken (option_or first rest) told
+names_first first rest (Some fault) names = rw names refl
+names_first first rest None names = tt
 
-pub names_rest : (first rest : Option (ℕ × ℕ)) (e : ModuleError) → first ≡ None → Names rest e → Names (option_or first rest) e
-names_rest first rest e none names = rw none names
+names_rest : (first rest told : Option (ℕ × ℕ)) → first ≡ None → NamesBroken rest told → NamesBroken (option_or first rest) told
+names_rest first rest told none names = rw none names
 
 pub tells_first : (n : ℕ) (found rest : Option ℕ) (e : ModuleError) → Tells n found e → Tells n (option_or found rest) e
 tells_first n found rest (Malformed rule offset) tells = (tells.0, rw tells.1 refl)
@@ -164,15 +164,17 @@ fault_of bytes image (Ok m) is headers dynamic fault = tt
 fault_of bytes image (Err e) is headers dynamic fault =
     let whole : image.bytes ≡ bytes = ap (λ (i : Contents). i.bytes) is ∙ bytes_are bytes in
     let layout : Names (layout_fault bytes) e = rw (← whole) fault in
-    names_rest (header_fault bytes) _ e headers (names_rest (dynamic_fault bytes) (layout_fault bytes) e dynamic layout)
+    names_rest (header_fault bytes) _ (fault_in e) headers (names_rest (dynamic_fault bytes) (layout_fault bytes) (fault_in e) dynamic layout)
 
-pub header_names : (bytes lent : List ℕ) (e : ModuleError) → lent ≡ bytes → Names (header_fault lent) e → Names (module_fault bytes) e
+-- the error of the headers, or of the dynamic section, tells a fault of the module
+pub header_names : (bytes lent : List ℕ) (e : ModuleError) (told : Option (ℕ × ℕ)) → lent ≡ bytes → fault_in e ≡ told → NamesBroken (header_fault lent) told → Names (module_fault bytes) e
 unfolding module_fault
-header_names bytes lent e is names = names_first (header_fault bytes) _ e (rw (← is) names)
+header_names bytes lent e told is tells names = rw tells (names_first (header_fault bytes) _ told (rw (← is) names))
 
-pub dynamic_names : (bytes lent before : List ℕ) (e : ModuleError) → before ≡ bytes → lent ≡ bytes → header_fault before ≡ None → Names (dynamic_fault lent) e → Names (module_fault bytes) e
+pub dynamic_names : (bytes lent before : List ℕ) (e : ModuleError) (told : Option (ℕ × ℕ)) → before ≡ bytes → lent ≡ bytes → header_fault before ≡ None → fault_in e ≡ told → NamesBroken (dynamic_fault lent) told → Names (module_fault bytes) e
 unfolding module_fault
-dynamic_names bytes lent before e was is headers names = names_rest (header_fault bytes) _ e (rw (← was) headers) (names_first (dynamic_fault bytes) (layout_fault bytes) e (rw (← is) names))
+dynamic_names bytes lent before e told was is headers tells names =
+    rw tells (names_rest (header_fault bytes) _ told (rw (← was) headers) (names_first (dynamic_fault bytes) (layout_fault bytes) told (rw (← is) names)))
 
 -- the place of a function in a module fits 32 bits
 or_none : (first rest : Option (ℕ × ℕ)) → option_or first rest ≡ None → (first ≡ None) × (rest ≡ None)

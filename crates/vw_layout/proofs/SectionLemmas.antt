@@ -1,10 +1,10 @@
 -- What the rules on section headers give of the sections of symbols.
-use Rattle.std.proofs.Common.{◌≡◌, ℕ, ◌+◌, ◌≤◌, ◌++◌, ◌&&◌, [], ◌∷◌, Bool, true, false, not, cond, List, length, map, All, Option, None, refl, arith}
+use Rattle.std.proofs.Common.{◌≡◌, ℕ, ◌+◌, ◌≤◌, ◌&&◌, [], ◌∷◌, Bool, true, false, not, cond, List, length, map, All, None, refl, arith}
 use Rattle.std.specs.List.{filter}
 use Rattle.std.proofs.lemmas.Bool.Decides.{nat_tests}
 use Rattle.std.proofs.lemmas.List.Elements.{All-nil, All-cons, All-head, All-tail}
-use Rattle.vw_bits.specs.Headers.{segments_of, section_headers, sh_offset, sh_size}
-use Rattle.vw_bits.specs.HeaderRules.{header_fault, header_rules, segment_rules, section_table_rule, symbol_section_rule, is_symbol_section, symbol_section_fits}
+use Rattle.vw_bits.specs.Headers.{section_headers, sh_offset, sh_size}
+use Rattle.vw_bits.specs.HeaderRules.{header_fault, header_rules, segment_rules, symbol_section_rule, is_symbol_section, symbol_section_fits}
 use Rattle.vw_bits.proofs.RuleLemmas.{lowest-each}
 use Rattle.vw_bits.proofs.BoundLemmas.{all_rules}
 use Rattle.vw_elf.specs.SymbolSections.{symbol_section_at, symbol_sections}

@@ -1,10 +1,7 @@
 ghost use Rattle.std.specs.Prelude.{◌≡◌, ◌==◌, length, None, IfOk, IfErr, IfSome, OnOk};
 ghost use Rattle.std.specs.List.{position};
 ghost use Rattle.std.specs.Str.{bytes_eq};
-ghost use Rattle.vw_bits.specs.Headers.{segments_of, dynamics_of};
-ghost use Rattle.vw_bits.specs.HeaderRules.{header_fault};
 ghost use Rattle.vw_elf.specs.SymbolSections.{symbol_sections};
-ghost use Rattle.vw_dynamic.specs.Dynamic.{dynamic_fault, file_relocations, file_imports};
 ghost use Rattle.vw_image.specs.Stubs.{IsBound};
 ghost use Rattle.vw_layout.specs.Faults.{Names};
 ghost use Rattle.vw_layout.specs.Calls.{call_target, module_stub, is_probe};
@@ -18,9 +15,9 @@ use crate::symbols::{Role, distinct_sections, read_symbols};
 use crate::tables::read_tables;
 use crate::{CallTarget, Function, ModuleError, TableInfo};
 use std::alloc::Global;
-use vw_bits::{DynHeader, List, Segment};
-use vw_dynamic::{DynError, Dynamic, RelKind, Relocation};
-use vw_elf::{Elf, ElfError, SymbolSection};
+use vw_bits::List;
+use vw_dynamic::{Dynamic, RelKind, Relocation};
+use vw_elf::{Elf, SymbolSection};
 use vw_image::{Image, Stub};
 
 /// A module: an ELF64 shared object for x86-64 of which all 36 rules hold.
@@ -43,8 +40,8 @@ impl Module {
         ensures whole { IfOk result IsWhole }
         ensures fault { IfErr result (Names (module_fault bytes)) }
     {
-        let elf = read_headers(alloc, bytes.as_slice())?;
-        let dynamic = read_dynamic(
+        let elf = Elf::read(alloc, bytes.as_slice())?;
+        let dynamic = Dynamic::read(
             alloc,
             bytes.as_slice(),
             elf.segments.as_slice(),
@@ -111,43 +108,6 @@ fn position_named(functions: &[Function], name: &[u8]) -> Option<usize>
     ensures { result ≡ position (λ f. bytes_eq f.name name.now) functions.now }
 {
     functions.iter().position(|f| f.name.as_slice() == name)
-}
-
-// Rules 1 to 14.
-fn read_headers(alloc: Global, bytes: &[u8]) -> Result<Elf, ModuleError>
-    ensures ok { OnOk result (header_fault bytes.now ≡ None) }
-    ensures segments { IfOk result (λ elf. elf.segments ≡ segments_of bytes.now) }
-    ensures dynamics { IfOk result (λ elf. elf.dynamics ≡ dynamics_of bytes.now) }
-    ensures symbols { IfOk result (λ elf. elf.symbols ≡ symbol_sections bytes.now) }
-    ensures fault { IfErr result (Names (header_fault bytes.now)) }
-{
-    match Elf::read(alloc, bytes) {
-        Ok(elf) => Ok(elf),
-        Err(ElfError::Fault { rule, offset }) => Err(ModuleError::Malformed { rule, offset }),
-        Err(ElfError::Memory(error)) => Err(ModuleError::Memory(error)),
-    }
-}
-
-// Rules 15 to 26.
-fn read_dynamic(
-    alloc: Global,
-    bytes: &[u8],
-    segments: &[Segment],
-    dynamics: &[DynHeader],
-) -> Result<Dynamic, ModuleError>
-    requires headers { header_fault bytes.now ≡ None }
-    requires segments { segments.now ≡ segments_of bytes.now }
-    requires dynamics { dynamics.now ≡ dynamics_of bytes.now }
-    ensures ok { OnOk result (dynamic_fault bytes.now ≡ None) }
-    ensures relocations { IfOk result (λ dynamic. dynamic.relocations ≡ file_relocations bytes.now) }
-    ensures imports { IfOk result (λ dynamic. dynamic.imports ≡ file_imports bytes.now) }
-    ensures fault { IfErr result (Names (dynamic_fault bytes.now)) }
-{
-    match Dynamic::read(alloc, bytes, segments, dynamics) {
-        Ok(dynamic) => Ok(dynamic),
-        Err(DynError::Fault { rule, offset }) => Err(ModuleError::Malformed { rule, offset }),
-        Err(DynError::Memory(error)) => Err(ModuleError::Memory(error)),
-    }
 }
 
 /// The greatest number of distinct names of imports.

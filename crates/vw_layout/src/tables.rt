@@ -1,5 +1,5 @@
 ghost use Rattle.std.specs.Prelude.{◌≡◌, ◌+◌, ◌*◌, ◌≤◌, ◌^◌, ◌&&◌, true, not, map, length, option_map, None, IfOk, IfErr, IfSome, OnOk, is_some};
-ghost use Rattle.std.specs.List.{find, list_any, flat_map};
+ghost use Rattle.std.specs.List.{find, flat_map};
 ghost use Rattle.vw_bits.specs.Headers.{table, is_readable, is_executable};
 ghost use Rattle.vw_bits.specs.Places.{in_file_part};
 ghost use Rattle.vw_bits.specs.Rules.{lowest_broken, AllHold};

@@ -8,25 +8,25 @@ use Rattle.vw_make.specs.Bounds.{AreApart, EntryFits, FixFits, FuncFits, TableFi
 use Rattle.vw_make.specs.Bytes.{rounded_up}
 use Rattle.vw_make.specs.Layout.{sizes_of, layout_from, file_size}
 
-all_none : {X : Type 0} (P : X → Type 0) → All P []
+pub all_none : {X : Type 0} (P : X → Type 0) → All P []
 all_none P k d inside = absurd (omega arith)
 
-all_one : {X : Type 0} (P : X → Type 0) (a : X) → P a → All P (a ∷ [])
+pub all_one : {X : Type 0} (P : X → Type 0) (a : X) → P a → All P (a ∷ [])
 all_one P a p zero d inside = p
 all_one P a p (suc k) d inside = absurd (omega arith)
 
-all_two : {X : Type 0} (P : X → Type 0) (a b : X) → P a → P b → All P (a ∷ b ∷ [])
+pub all_two : {X : Type 0} (P : X → Type 0) (a b : X) → P a → P b → All P (a ∷ b ∷ [])
 all_two P a b p q zero d inside = p
 all_two P a b p q (suc zero) d inside = q
 all_two P a b p q (suc (suc k)) d inside = absurd (omega arith)
 
-pairs_none : {X : Type 0} (R : X → X → Type 0) → AllPairs R []
+pub pairs_none : {X : Type 0} (R : X → X → Type 0) → AllPairs R []
 pairs_none R i j d below inside = absurd (omega arith)
 
-pairs_one : {X : Type 0} (R : X → X → Type 0) (a : X) → AllPairs R (a ∷ [])
+pub pairs_one : {X : Type 0} (R : X → X → Type 0) (a : X) → AllPairs R (a ∷ [])
 pairs_one R a i j d below inside = absurd (omega arith)
 
-pairs_two : {X : Type 0} (R : X → X → Type 0) (a b : X) → R a b → AllPairs R (a ∷ b ∷ [])
+pub pairs_two : {X : Type 0} (R : X → X → Type 0) (a b : X) → R a b → AllPairs R (a ∷ b ∷ [])
 pairs_two R a b r i zero d below inside = absurd (omega arith)
 pairs_two R a b r zero (suc zero) d below inside = r
 pairs_two R a b r (suc i) (suc zero) d below inside = absurd (omega arith)
@@ -66,7 +66,7 @@ first_fits =
 second_fits : FuncFits sample second
 second_fits = record { name = lit≤ tt; code = lit≤ tt; fixes = all_none (FixFits sample second); apart = pairs_none (AreApart 4) }
 
-few : HasAtMost 65536 imports
+pub few : HasAtMost 65536 imports
 few = record { different = imports; few = lit≤ tt; each = all_two (Contains imports) (97 ∷ []) (98 ∷ 99 ∷ []) (0, lit< tt, refl) (1, lit< tt, refl) }
 
 size : file_size sample ≤ 67108864

@@ -30,12 +30,12 @@ pub import_piece : (imports : List (List ℕ)) (i name : ℕ) → name ≡ strin
 import_piece imports i name e = ap (λ (n : ℕ). symbol n 0x12 0 0 0) e
 
 -- a function's symbol, from the values of its fields
-pub function_piece : (functions : List Func) (layout : Layout) (i name value : ℕ) (code : List ℕ) (f : Func) → name ≡ strings_size (function_names (take i functions)) → value ≡ function_at functions layout i → code ≡ f.code → f ≡ get_or functions i f
-    → symbol name 0x12 1 value (length code) ≡ function_symbol functions layout i (get_or functions i f)
-function_piece functions layout i name value code f named placed coded here =
-    ap (λ (n : ℕ). symbol n 0x12 1 value (length code)) (named ∙ sym (name_at_is functions i))
-    ∙ (ap (λ (v : ℕ). symbol (name_at (function_names functions) i) 0x12 1 v (length code)) placed
-    ∙ ap (λ (bytes : List ℕ). symbol (name_at (function_names functions) i) 0x12 1 (function_at functions layout i) (length bytes)) (coded ∙ ap (λ (g : Func). g.code) here))
+pub function_piece : (functions : List Func) (layout : Layout) (i name value size : ℕ) (f : Func) → name ≡ strings_size (function_names (take i functions)) → value ≡ function_at functions layout i → size ≡ length f.code → f ≡ get_or functions i f
+    → symbol name 0x12 1 value size ≡ function_symbol functions layout i (get_or functions i f)
+function_piece functions layout i name value size f named placed sized here =
+    ap (λ (n : ℕ). symbol n 0x12 1 value size) (named ∙ sym (name_at_is functions i))
+    ∙ (ap (λ (v : ℕ). symbol (name_at (function_names functions) i) 0x12 1 v size) placed
+    ∙ ap (λ (n : ℕ). symbol (name_at (function_names functions) i) 0x12 1 (function_at functions layout i) n) (sized ∙ ap (λ (g : Func). length g.code) here))
 
 -- a pair's relocation, from its places
 pub pair_piece : (tables : List (List (ℕ × Option ℕ))) (layout : Layout) (i pair table : ℕ) → pair ≡ layout.lucet_tables + 16 * i → table ≡ table_at tables layout i → relative pair table ≡ pair_relocation tables layout i

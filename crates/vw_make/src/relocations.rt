@@ -33,7 +33,7 @@ fn put_slot_relocations(out: &mut Vec<u8>, plan: &Plan) -> Result<(), OutOfMemor
     ensures { OnOk result (out.new.items
         ≡ out.old.items ++ slot_relocations plan.now.parts.now.imports plan.now.layout) }
 {
-    let count = plan.parts.imports.as_slice().len() as u32;
+    let count = plan.parts.imports.len() as u32;
     for number in 0..count {
         let entry = RelaEntry {
             offset: plan.layout.slots + 8 * number as u64,
@@ -71,7 +71,7 @@ fn put_pair_relocations(out: &mut Vec<u8>, plan: &Plan) -> Result<(), OutOfMemor
     for entries in tables {
         put_relative(out, pair, table)?;
         pair += 16;
-        table += 16 * entries.as_slice().len() as u64;
+        table += 16 * entries.len() as u64;
     }
     Ok(())
 }
@@ -86,7 +86,7 @@ fn put_entry_relocations(out: &mut Vec<u8>, plan: &Plan) -> Result<(), OutOfMemo
     let mut table = plan.layout.tables;
     for entries in tables {
         put_table_relocations(out, plan, table, entries.as_slice())?;
-        table += 16 * entries.as_slice().len() as u64;
+        table += 16 * entries.len() as u64;
     }
     Ok(())
 }

@@ -56,9 +56,9 @@ fn relocation_count_of(parts: &Parts) -> u64
     requires { MeetsBounds parts.now }
     ensures { result ≡ relocation_count parts.now }
 {
-    let imports = parts.imports.as_slice().len() as u64;
+    let imports = parts.imports.len() as u64;
     let tables = parts.tables.as_slice();
-    let binds = parts.binds.as_slice().len() as u64;
+    let binds = parts.binds.len() as u64;
     imports + tables.len() as u64 + filled_count(tables) + binds
 }
 
@@ -67,8 +67,8 @@ fn symbol_count_of(parts: &Parts) -> u64
     requires { MeetsBounds parts.now }
     ensures { result ≡ symbol_count parts.now }
 {
-    let functions = parts.functions.as_slice().len() as u64;
-    if parts.tables.as_slice().is_empty() {
+    let functions = parts.functions.len() as u64;
+    if parts.tables.is_empty() {
         return 1 + functions;
     }
     1 + functions + 1
@@ -80,7 +80,7 @@ fn symbol_strings_size_of(parts: &Parts) -> u64
     ensures { result ≡ symbol_strings_size parts.now }
 {
     let size = function_strings_size(parts.functions.as_slice());
-    if parts.tables.as_slice().is_empty() {
+    if parts.tables.is_empty() {
         return size;
     }
     size + 13
@@ -129,7 +129,7 @@ fn entry_count(tables: &[List<(u64, Option<u32>)>]) -> u64
 {
     let mut count = 0;
     for entries in tables {
-        count += entries.as_slice().len() as u64;
+        count += entries.len() as u64;
     }
     count
 }

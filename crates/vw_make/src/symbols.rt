@@ -53,7 +53,7 @@ pub fn put_symbols(out: &mut Vec<u8>, plan: &Plan) -> Result<(), OutOfMemory>
 {
     put_null_symbol(out)?;
     let name = put_function_symbols(out, plan)?;
-    if plan.parts.tables.as_slice().is_empty() {
+    if plan.parts.tables.is_empty() {
         return Ok(());
     }
     put_tables_symbol(out, plan, name)?;
@@ -93,7 +93,7 @@ fn put_function_symbols(out: &mut Vec<u8>, plan: &Plan) -> Result<u32, OutOfMemo
             info: GLOBAL_FUNC,
             section: DEFINED,
             value: plan.functions[number],
-            size: func.code.as_slice().len() as u64,
+            size: func.code.len() as u64,
         };
         put_symbol(out, &entry)?;
         name += func.name.as_slice().len() as u32 + 1;

@@ -47,7 +47,7 @@ pub fn put_pairs(out: &mut Vec<u8>, tables: &[List<(u64, Option<u32>)>]) -> Resu
 {
     for entries in tables {
         put_u64(out, 0)?;
-        put_u64(out, entries.as_slice().len() as u64)?;
+        put_u64(out, entries.len() as u64)?;
     }
     Ok(())
 }

@@ -1,4 +1,4 @@
-ghost use Rattle.std.specs.Prelude.{◌≡◌, [], ◌∷◌, IfOk};
+ghost use Rattle.std.specs.Prelude.{◌≡◌, [], ◌∷◌, Some, None, IfOk};
 ghost use Rattle.vw_make.specs.Bounds.{MeetsBounds};
 
 use crate::{Func, Parts, Target, make, write_module};
@@ -157,28 +157,6 @@ fn text_of(alloc: Global, bytes: &[u8]) -> Result<Text, OutOfMemory>
     Ok(text)
 }
 
-fn bytes_of(alloc: Global, bytes: &[u8]) -> Result<List<u8>, OutOfMemory>
-    ensures { IfOk result (λ list. list ≡ bytes.now) }
-{
-    Ok(List::from_vec(Vec::from_slice(alloc, bytes)?))
-}
-
-fn list_of<T: Drop>(alloc: Global, first: T) -> Result<List<T>, OutOfMemory>
-    ensures { IfOk result (λ list. list ≡ first ∷ []) }
-{
-    let mut list = List::new(alloc);
-    list.push(first)?;
-    Ok(list)
-}
-
-fn pair_of<T: Drop>(alloc: Global, first: T, second: T) -> Result<List<T>, OutOfMemory>
-    ensures { IfOk result (λ list. list ≡ first ∷ second ∷ []) }
-{
-    let mut list = list_of(alloc, first)?;
-    list.push(second)?;
-    Ok(list)
-}
-
 fn func_of(
     alloc: Global,
     name: &[u8],
@@ -188,7 +166,7 @@ fn func_of(
     ensures { IfOk result (λ f. f ≡ record { name = name.now; code = code.now; fixes = fixes }) }
 {
     let name = text_of(alloc, name)?;
-    let code = bytes_of(alloc, code)?;
+    let code = List::from_vec(Vec::from_slice(alloc, code)?);
     Ok(Func { name, code, fixes })
 }
 
@@ -196,27 +174,38 @@ fn func_of(
 fn functions_of(alloc: Global) -> Result<List<Func>, OutOfMemory>
     ensures { IfOk result (λ fs. fs ≡ record { name = 102 ∷ []; code = CODE; fixes = (1, Target.Stub 1) ∷ (7, Target.Tables 8) ∷ [] } ∷ record { name = 103 ∷ 103 ∷ []; code = RETURN; fixes = [] } ∷ []) }
 {
-    let fixes = pair_of(alloc, (1, Target::Stub(1)), (7, Target::Tables(8)))?;
+    let fixes = List::from_vec(vec![in alloc; (1, Target::Stub(1)), (7, Target::Tables(8))]?);
     let first = func_of(alloc, b"f", &CODE, fixes)?;
     let second = func_of(alloc, b"gg", &RETURN, List::new(alloc))?;
-    pair_of(alloc, first, second)
+    Ok(List::from_vec(vec![in alloc; first, second]?))
+}
+
+fn imports_of(alloc: Global) -> Result<List<Text>, OutOfMemory>
+    ensures { IfOk result (λ imports. imports ≡ (97 ∷ []) ∷ (98 ∷ 99 ∷ []) ∷ []) }
+{
+    let first = text_of(alloc, b"a")?;
+    let second = text_of(alloc, b"bc")?;
+    Ok(List::from_vec(vec![in alloc; first, second]?))
+}
+
+/// A table of two entries, the second empty.
+fn tables_of(alloc: Global) -> Result<List<List<(u64, Option<u32>)>>, OutOfMemory>
+    ensures { IfOk result (λ tables. tables ≡ ((5, Some 1) ∷ (9, None) ∷ []) ∷ []) }
+{
+    let entries = List::from_vec(vec![in alloc; (5, Some(1)), (9, None)]?);
+    Ok(List::from_vec(vec![in alloc; entries]?))
 }
 
 /// Two imports, a table of two entries, the second empty, and data with a bound word.
 fn parts_of(alloc: Global) -> Result<Parts, OutOfMemory>
     ensures { IfOk result (λ parts. MeetsBounds parts) }
 {
-    let functions = functions_of(alloc)?;
-    let imports = pair_of(alloc, text_of(alloc, b"a")?, text_of(alloc, b"bc")?)?;
-    let tables = list_of(alloc, pair_of(alloc, (5, Some(1)), (9, None))?)?;
-    let content = bytes_of(alloc, &CONTENT)?;
-    let binds = list_of(alloc, (1, 1))?;
     Ok(Parts {
-        functions,
-        imports,
-        tables,
-        content,
-        binds,
+        functions: functions_of(alloc)?,
+        imports: imports_of(alloc)?,
+        tables: tables_of(alloc)?,
+        content: List::from_vec(Vec::from_slice(alloc, &CONTENT)?),
+        binds: List::from_vec(vec![in alloc; (1, 1)]?),
     })
 }
 
@@ -238,7 +227,7 @@ fn writes_each_byte_of_a_module(rt: HostRuntime) -> Result<(), Fail> {
     let parts = parts_of(rt.alloc())?;
     let file = write_module(rt.alloc(), &parts)?;
     let bytes = expected(rt.alloc())?;
-    assert_eq!(rt; file.as_slice().len(), LEN);
+    assert_eq!(rt; file.len(), LEN);
     assert!(rt; file.as_slice() == bytes.as_slice());
     Ok(())
 }
@@ -330,7 +319,7 @@ fn stands_at(file: &[u8], at: usize, bytes: &[u8]) -> bool {
 fn generates_functions_of_each_kind(rt: HostRuntime) -> Result<(), Fail> {
     for (functions, number, size, at, code) in &GUESTS {
         let file = make(rt.alloc(), (*functions).min(8), *number)?;
-        assert_eq!(rt; file.as_slice().len(), *size);
+        assert_eq!(rt; file.len(), *size);
         assert!(rt; stands_at(file.as_slice(), *at, code));
     }
     Ok(())

@@ -7,9 +7,9 @@ pub returns-in-None : goal.returns-in-None
 unfolding strings_of
 returns-in-None c = rw (← c.in-None.ensures) refl
 
-pub part-requires : goal.part-requires
-part-requires c = rw c.unwrap_or.ensures (table_offset-inside _ _ _ _ _ c.requires.inside (sym c.in-Some.ensures))
+pub bytes_at-requires : goal.bytes_at-requires
+bytes_at-requires c = rw c.unwrap_or.ensures (table_offset-inside _ _ _ _ _ c.requires.inside (sym c.in-Some.ensures))
 
 pub returns-in-Some : goal.returns-in-Some
 unfolding strings_of
-returns-in-Some c = rw (← c.in-Some.ensures, ← c.unwrap_or.ensures) c.part.ensures
+returns-in-Some c = rw (← c.in-Some.ensures, ← c.unwrap_or.ensures) c.bytes_at.ensures

@@ -10,8 +10,8 @@ file_offset-requires c =
 pub returns-in_err-offset : goal.returns-in_err-offset
 returns-in_err-offset c = ap option_copied c.from_residual.ensures ∙ ap (option_map (λ at. take c.args.size (drop at c.args.bytes.now))) c.in_err-offset.ensures
 
-pub part-requires : goal.part-requires
-part-requires c = file_offset-inside _ _ _ _ _ c.requires (sym c.in_ok-offset.ensures)
+pub bytes_at-requires : goal.bytes_at-requires
+bytes_at-requires c = file_offset-inside _ _ _ _ _ c.requires (sym c.in_ok-offset.ensures)
 
 pub returns : goal.returns
-returns c = ap Some c.part.ensures ∙ ap (option_map (λ at. take c.args.size (drop at c.args.bytes.now))) c.in_ok-offset.ensures
+returns c = ap Some c.bytes_at.ensures ∙ ap (option_map (λ at. take c.args.size (drop at c.args.bytes.now))) c.in_ok-offset.ensures

@@ -15,13 +15,13 @@ pub overflow_add-table : goal.overflow_add-table
 overflow_add-table c =
     let facts = plan_facts c.requires in
     let fits = table_fits c.requires _ c.as_slice-tables.ensures c.loop-entries.entries-index c.loop-entries-test.true c.entries-item.result c.entries-item.is in
-    omega (arith, fits, c.loop-entries.invariant.table, ap (λ (e : List (ℕ × Option ℕ)). length e) c.as_slice-in-loop-entries.ensures, facts.low.content)
+    omega (arith, fits, c.loop-entries.invariant.table, ap (λ (e : List (ℕ × Option ℕ)). length e) c.entries-item.is, facts.low.content)
 
 pub loop-entries-preserved : goal.loop-entries-preserved
 loop-entries-preserved c =
     let more = table_more c.as_slice-tables.result.now c.args.plan.now.layout c.loop-entries.entries-index c.loop-entries-test.true c.entries-item.result c.entries-item.is in
     record {
-      table = omega (arith, more, c.loop-entries.invariant.table, ap (λ (e : List (ℕ × Option ℕ)). length e) c.as_slice-in-loop-entries.ensures);
+      table = omega (arith, more, c.loop-entries.invariant.table, ap (λ (e : List (ℕ × Option ℕ)). length e) c.entries-item.is);
       bytes =
           numbered_step
           (λ (number : ℕ) (entries : List (ℕ × Option ℕ)). table_relocations c.args.plan.now.parts.now.functions c.args.plan.now.layout (table_at c.as_slice-tables.result.now c.args.plan.now.layout number) entries)

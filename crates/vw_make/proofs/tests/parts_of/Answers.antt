@@ -3,4 +3,4 @@ use Rattle.vw_make.proofs.tests.parts_of.Goals as goal
 
 pub returns : goal.returns
 returns c =
-    rw (c.in_ok-functions.ensures, c.in_ok-imports.ensures, c.in_ok-tables.ensures, c.in_ok-content.ensures, c.in_ok-binds.ensures, c.in_ok-text_of.ensures, c.in_ok-text_of-2.ensures, c.in_ok-pair_of.ensures) sample_meets
+    rw (c.in_ok-functions_of.ensures, c.in_ok-imports_of.ensures, c.in_ok-tables_of.ensures, c.from_vec.ensures, c.in_ok-from_slice.ensures.items, c.from_vec-2.ensures, c.in_ok-vec.ensures.items) sample_meets

@@ -47,8 +47,8 @@ returns-in_err-header-clause-fault c =
     let p = err_from_is_err_and c.from_residual.result c.from_residual.ensures.1 in
     rw (p.1, p.2) (in_header _ _ c.in_err-header.ensures.fault)
 
-pub read_segments-requires-clause-table : goal.read_segments-requires-clause-table
-read_segments-requires-clause-table c = program_headers-inside _ c.in_ok-header.ensures.ok
+pub read_program_headers-requires-clause-table : goal.read_program_headers-requires-clause-table
+read_program_headers-requires-clause-table c = program_headers-inside _ c.in_ok-header.ensures.ok
 
 pub returns-in_err-check_segments-clause-fault : goal.returns-in_err-check_segments-clause-fault
 returns-in_err-check_segments-clause-fault c =
@@ -77,9 +77,6 @@ returns-in_err-refuse-2-clause-fault c =
     let segments : AllHold (segments_checked c.args.bytes.now) = subst P are c.in_ok-check_segments.ensures.ok in
     let Q : Option ℕ → Type 0 = λ found. Tells 14 found c.in_err-refuse-2.field-0.0 in
     rw (p.1, p.2) (in_symbol_section _ _ c.in_ok-header.ensures.ok segments (sym c.broken_section_table.ensures ∙ c.in_ok-refuse.ensures.holds) (subst Q c.broken_symbol_section.ensures c.in_err-refuse-2.ensures.broken))
-
-pub read_dynamics-requires-clause-table : goal.read_dynamics-requires-clause-table
-read_dynamics-requires-clause-table c = program_headers-inside _ c.in_ok-header.ensures.ok
 
 pub read_symbol_sections-requires-clause-table : goal.read_symbol_sections-requires-clause-table
 read_symbol_sections-requires-clause-table c = SectionsInside-from_rule _ (sym c.broken_section_table.ensures ∙ c.in_ok-refuse.ensures.holds)

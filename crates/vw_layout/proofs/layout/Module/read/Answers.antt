@@ -12,12 +12,12 @@ use Rattle.vw_layout.proofs.layout.Module.read.Goals as goal
 pub returns-in_err-elf-clause-fault : goal.returns-in_err-elf-clause-fault
 returns-in_err-elf-clause-fault c =
     let p = err_from_is_err_and c.from_residual.result c.from_residual.ensures.1 in
-    rw (p.1, p.2) (header_names c.args.bytes c.as_slice.result.now _ c.as_slice.ensures c.in_err-elf.ensures.fault)
+    rw p.1 (header_names c.args.bytes c.as_slice.result.now _ _ c.as_slice.ensures p.2 c.in_err-elf.ensures.fault)
 
 pub returns-in_err-dynamic-clause-fault : goal.returns-in_err-dynamic-clause-fault
 returns-in_err-dynamic-clause-fault c =
     let p = err_from_is_err_and c.from_residual-in_err-dynamic.result c.from_residual-in_err-dynamic.ensures.1 in
-    rw (p.1, p.2) (dynamic_names c.args.bytes c.as_slice-2.result.now c.as_slice.result.now _ c.as_slice.ensures c.as_slice-2.ensures c.in_ok-elf.ensures.ok c.in_err-dynamic.ensures.fault)
+    rw p.1 (dynamic_names c.args.bytes c.as_slice-2.result.now c.as_slice.result.now _ _ c.as_slice.ensures c.as_slice-2.ensures c.in_ok-elf.ensures.ok p.2 c.in_err-dynamic.ensures.fault)
 
 pub read_layout-requires-clause-sections : goal.read_layout-requires-clause-sections
 read_layout-requires-clause-sections c =
