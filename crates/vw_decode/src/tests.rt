@@ -30,6 +30,16 @@ fn mov(w: Width, dst: Place, src: Source) -> Insn {
     Insn::Mov { w, dst, src }
 }
 
+fn xmm(row: XmmRow, wide: bool, reg: u8, rm: XmmOperand, imm: u8) -> Insn {
+    Insn::Xmm {
+        row,
+        wide,
+        reg,
+        rm,
+        imm,
+    }
+}
+
 fn alu(op: AluOp, w: Width, dst: Place, src: Source) -> Insn {
     Insn::Alu { op, w, dst, src }
 }
@@ -1170,193 +1180,121 @@ fn decodes_xmm_registers(rt: HostRuntime) {
     spells(
         &rt,
         &[0x0F, 0x10, 0xC1],
-        Insn::Xmm {
-            row: XmmRow::MovupsLoad,
-            wide: false,
-            reg: 0,
-            rm: XmmOperand::Reg(1),
-            imm: 0,
-        },
+        xmm(XmmRow::MovupsLoad, false, 0, XmmOperand::Reg(1), 0),
     );
     // movss xmm0,[rax]
     spells(
         &rt,
         &[0xF3, 0x0F, 0x10, 0x00],
-        Insn::Xmm {
-            row: XmmRow::MovssLoad,
-            wide: false,
-            reg: 0,
-            rm: XmmOperand::Mem(memory(Base::Reg(Reg::Rax), None, 0)),
-            imm: 0,
-        },
+        xmm(
+            XmmRow::MovssLoad,
+            false,
+            0,
+            XmmOperand::Mem(memory(Base::Reg(Reg::Rax), None, 0)),
+            0,
+        ),
     );
     // movsd [rip+0x8],xmm9
     spells(
         &rt,
         &[0xF2, 0x44, 0x0F, 0x11, 0x0D, 0x08, 0x00, 0x00, 0x00],
-        Insn::Xmm {
-            row: XmmRow::MovsdStore,
-            wide: false,
-            reg: 9,
-            rm: XmmOperand::Mem(memory(Base::Rip, None, 8)),
-            imm: 0,
-        },
+        xmm(
+            XmmRow::MovsdStore,
+            false,
+            9,
+            XmmOperand::Mem(memory(Base::Rip, None, 8)),
+            0,
+        ),
     );
     // movapd xmm7,xmm9
     spells(
         &rt,
         &[0x66, 0x41, 0x0F, 0x28, 0xF9],
-        Insn::Xmm {
-            row: XmmRow::MovapdLoad,
-            wide: false,
-            reg: 7,
-            rm: XmmOperand::Reg(9),
-            imm: 0,
-        },
+        xmm(XmmRow::MovapdLoad, false, 7, XmmOperand::Reg(9), 0),
     );
     // movdqu [rdi],xmm7
     spells(
         &rt,
         &[0xF3, 0x0F, 0x7F, 0x3F],
-        Insn::Xmm {
-            row: XmmRow::MovdquStore,
-            wide: false,
-            reg: 7,
-            rm: XmmOperand::Mem(memory(Base::Reg(Reg::Rdi), None, 0)),
-            imm: 0,
-        },
+        xmm(
+            XmmRow::MovdquStore,
+            false,
+            7,
+            XmmOperand::Mem(memory(Base::Reg(Reg::Rdi), None, 0)),
+            0,
+        ),
     );
     // movd xmm0,esp
     spells(
         &rt,
         &[0x66, 0x0F, 0x6E, 0xC4],
-        Insn::Xmm {
-            row: XmmRow::MovdLoad,
-            wide: false,
-            reg: 0,
-            rm: XmmOperand::Reg(4),
-            imm: 0,
-        },
+        xmm(XmmRow::MovdLoad, false, 0, XmmOperand::Reg(4), 0),
     );
     // movq rax,xmm9
     spells(
         &rt,
         &[0x66, 0x4C, 0x0F, 0x7E, 0xC8],
-        Insn::Xmm {
-            row: XmmRow::MovdStore,
-            wide: true,
-            reg: 9,
-            rm: XmmOperand::Reg(0),
-            imm: 0,
-        },
+        xmm(XmmRow::MovdStore, true, 9, XmmOperand::Reg(0), 0),
     );
     // movq xmm0,xmm1
     spells(
         &rt,
         &[0xF3, 0x0F, 0x7E, 0xC1],
-        Insn::Xmm {
-            row: XmmRow::MovqLoad,
-            wide: false,
-            reg: 0,
-            rm: XmmOperand::Reg(1),
-            imm: 0,
-        },
+        xmm(XmmRow::MovqLoad, false, 0, XmmOperand::Reg(1), 0),
     );
     // cvtsi2sd xmm0,r15
     spells(
         &rt,
         &[0xF2, 0x49, 0x0F, 0x2A, 0xC7],
-        Insn::Xmm {
-            row: XmmRow::Cvtsi2sd,
-            wide: true,
-            reg: 0,
-            rm: XmmOperand::Reg(15),
-            imm: 0,
-        },
+        xmm(XmmRow::Cvtsi2sd, true, 0, XmmOperand::Reg(15), 0),
     );
     // cvttss2si rax,xmm1
     spells(
         &rt,
         &[0xF3, 0x48, 0x0F, 0x2C, 0xC1],
-        Insn::Xmm {
-            row: XmmRow::Cvttss2si,
-            wide: true,
-            reg: 0,
-            rm: XmmOperand::Reg(1),
-            imm: 0,
-        },
+        xmm(XmmRow::Cvttss2si, true, 0, XmmOperand::Reg(1), 0),
     );
     // cvtsd2si ecx,xmm1
     spells(
         &rt,
         &[0xF2, 0x0F, 0x2D, 0xC9],
-        Insn::Xmm {
-            row: XmmRow::Cvtsd2si,
-            wide: false,
-            reg: 1,
-            rm: XmmOperand::Reg(1),
-            imm: 0,
-        },
+        xmm(XmmRow::Cvtsd2si, false, 1, XmmOperand::Reg(1), 0),
     );
     // ucomisd xmm0,xmm1
     spells(
         &rt,
         &[0x66, 0x0F, 0x2E, 0xC1],
-        Insn::Xmm {
-            row: XmmRow::Ucomisd,
-            wide: false,
-            reg: 0,
-            rm: XmmOperand::Reg(1),
-            imm: 0,
-        },
+        xmm(XmmRow::Ucomisd, false, 0, XmmOperand::Reg(1), 0),
     );
     // pxor xmm8,xmm8
     spells(
         &rt,
         &[0x66, 0x45, 0x0F, 0xEF, 0xC0],
-        Insn::Xmm {
-            row: XmmRow::Pxor,
-            wide: false,
-            reg: 8,
-            rm: XmmOperand::Reg(8),
-            imm: 0,
-        },
+        xmm(XmmRow::Pxor, false, 8, XmmOperand::Reg(8), 0),
     );
     // addsd xmm1,xmm0
     spells(
         &rt,
         &[0xF2, 0x0F, 0x58, 0xC8],
-        Insn::Xmm {
-            row: XmmRow::Addsd,
-            wide: false,
-            reg: 1,
-            rm: XmmOperand::Reg(0),
-            imm: 0,
-        },
+        xmm(XmmRow::Addsd, false, 1, XmmOperand::Reg(0), 0),
     );
     // roundss xmm0,xmm1,0x3
     spells(
         &rt,
         &[0x66, 0x0F, 0x3A, 0x0A, 0xC1, 0x03],
-        Insn::Xmm {
-            row: XmmRow::Roundss,
-            wide: false,
-            reg: 0,
-            rm: XmmOperand::Reg(1),
-            imm: 3,
-        },
+        xmm(XmmRow::Roundss, false, 0, XmmOperand::Reg(1), 3),
     );
     // roundsd xmm3,[r15+rdi*8],0x80
     spells(
         &rt,
         &[0x66, 0x41, 0x0F, 0x3A, 0x0B, 0x1C, 0xFF, 0x80],
-        Insn::Xmm {
-            row: XmmRow::Roundsd,
-            wide: false,
-            reg: 3,
-            rm: XmmOperand::Mem(memory(Base::Reg(Reg::R15), Some((Reg::Rdi, 8)), 0)),
-            imm: 128,
-        },
+        xmm(
+            XmmRow::Roundsd,
+            false,
+            3,
+            XmmOperand::Mem(memory(Base::Reg(Reg::R15), Some((Reg::Rdi, 8)), 0)),
+            128,
+        ),
     );
 }
 

@@ -13,13 +13,13 @@ use Rattle.vw_rows.specs.declared.forms.Sizing.{Sizing}
 use Rattle.vw_rows.specs.declared.forms.Sizing.TheVariants as size
 use Rattle.vw_rows.specs.declared.forms.Row.{Row}
 use Rattle.vw_rows.specs.Parts.{Modrm, Parts, rm, rex_w, rex_r, rex_x, rex_b}
-use Rattle.vw_rows.specs.Layout.{variable_width, wide_width, width_at, has_fixed, IsRex, IsLaid}
+use Rattle.vw_rows.specs.Layout.{has_modrm, variable_width, wide_width, width_at, has_fixed, IsRex, IsLaid}
 use Rattle.vw_rows.specs.Shape.{has_rex, register_place, base_at, index_at, memory_at, rm_place, reg_number, xmm_operand, rm_width, first_place, second_place, xmm_register, xmm_second}
 use Rattle.vw_rows.specs.Meaning.{insn_of}
-use Rattle.vw_encode.specs.search.Normal.{implies, same_bool, reads_w, reads_r, reads_x, reads_b, is_byte, extends_byte, reads_byte, lean_bits, is_lean_bits, is_lean}
+use Rattle.vw_encode.specs.search.Normal.{implies, same_bool, reads_w, reads_r, reads_b, is_byte, extends_byte, reads_byte, lean_bits, is_lean_bits, is_lean}
 use Rattle.vw_encode.specs.Order.{rank_of}
 use Rattle.vw_rows.proofs.Below.{below, below_at}
-use Rattle.vw_encode.proofs.Facts.{follows}
+use Rattle.vw_encode.proofs.Facts.{follows, is_w8}
 use Rattle.vw_encode.proofs.Laid.{same_is}
 
 -- ---- the bits, by computation
@@ -120,15 +120,15 @@ left_by w r x b y None h = record { w_is = λ e. refl; r_is = λ e. refl; x_is =
 left_by w r x b y (Some n) h = left_of w r x b y n (lean_by w r x b y (Some n)) (checked_at w r x b y n h)
 
 abbrev pub lean_rex : Row → Option ℕ → Option ℕ
-lean_rex r rex = lean_by (reads_w r.width) (reads_r r.operands) (reads_x r.operands) (reads_b r.operands) (reads_byte r) rex
+lean_rex r rex = lean_by (reads_w r.width) (reads_r r.operands) (has_modrm r.operands) (reads_b r.operands) (reads_byte r) rex
 
 abbrev LeftOf : Row → Option ℕ → Type 0
-LeftOf r rex = Left (reads_w r.width) (reads_r r.operands) (reads_x r.operands) (reads_b r.operands) (reads_byte r) rex (lean_rex r rex)
+LeftOf r rex = Left (reads_w r.width) (reads_r r.operands) (has_modrm r.operands) (reads_b r.operands) (reads_byte r) rex (lean_rex r rex)
 
 left : (r : Row) (rex : Option ℕ) → IsRex rex → LeftOf r rex
-left r rex h = left_by (reads_w r.width) (reads_r r.operands) (reads_x r.operands) (reads_b r.operands) (reads_byte r) rex h
+left r rex h = left_by (reads_w r.width) (reads_r r.operands) (has_modrm r.operands) (reads_b r.operands) (reads_byte r) rex h
 
-lean_is : (r : Row) (rex : Option ℕ) → is_lean_by (reads_w r.width) (reads_r r.operands) (reads_x r.operands) (reads_b r.operands) (reads_byte r) rex ≡ true → is_lean r rex ≡ true
+lean_is : (r : Row) (rex : Option ℕ) → is_lean_by (reads_w r.width) (reads_r r.operands) (has_modrm r.operands) (reads_b r.operands) (reads_byte r) rex ≡ true → is_lean r rex ≡ true
 lean_is r None h = refl
 lean_is r (Some n) h = h
 
@@ -149,12 +149,6 @@ same_width_at size.Q prefix a b e = refl
 same_width_at size.OnlyW prefix a b e = rw (e refl) refl
 same_width_at size.Narrow prefix a b e = rw (e refl) refl
 same_width_at size.Wide prefix a b e = rw (e refl) refl
-
-abbrev is_w8 : Width → Bool
-is_w8 W8 = true
-is_w8 W16 = false
-is_w8 W32 = false
-is_w8 W64 = false
 
 abbrev byte_only : Sizing → Option Width → Type 0
 byte_only s o = IfSome o (λ w. is_w8 w ≡ true → is_byte s ≡ true)
@@ -238,7 +232,7 @@ record Named (o : Operands) (k : Kind) (w : Width) (p : Parts) (l : Option ℕ) 
   operand : xmm_second o (with_rex p l) ≡ xmm_second o p
   fixed : has_fixed o (with_rex p l) ≡ has_fixed o p
 
-same_names : (o : Operands) (k : Kind) (w : Width) (p : Parts) (l : Option ℕ) → (is_w8 w ≡ true → has_rex l ≡ has_rex p.rex) → (is_w8 (rm_width k w) ≡ true → has_rex l ≡ has_rex p.rex) → (reads_r o ≡ true → rex_r l ≡ rex_r p.rex) → (reads_x o ≡ true → rex_x l ≡ rex_x p.rex) → (reads_b o ≡ true → rex_b l ≡ rex_b p.rex) → Named o k w p l
+same_names : (o : Operands) (k : Kind) (w : Width) (p : Parts) (l : Option ℕ) → (is_w8 w ≡ true → has_rex l ≡ has_rex p.rex) → (is_w8 (rm_width k w) ≡ true → has_rex l ≡ has_rex p.rex) → (reads_r o ≡ true → rex_r l ≡ rex_r p.rex) → (has_modrm o ≡ true → rex_x l ≡ rex_x p.rex) → (reads_b o ≡ true → rex_b l ≡ rex_b p.rex) → Named o k w p l
 same_names ops.None k w p l h i r x b = record { first = refl; second = refl; register = refl; operand = refl; fixed = refl }
 same_names ops.EG k w p l h i r x b = record { first = same_rm (rm_width k w) l p.rex p.modrm i (b refl) (x refl); second = rw (same_reg l p.rex p.modrm (r refl)) (same_register w l p.rex (reg_number p.rex p.modrm) h); register = refl; operand = refl; fixed = refl }
 same_names ops.GE k w p l h i r x b = record { first = rw (same_reg l p.rex p.modrm (r refl)) (same_register w l p.rex (reg_number p.rex p.modrm) h); second = same_rm (rm_width k w) l p.rex p.modrm i (b refl) (x refl); register = refl; operand = refl; fixed = refl }

@@ -1,7 +1,6 @@
 ghost use Rattle.std.specs.Prelude.{◌≡◌, pos};
 ghost use Rattle.vw_insn.specs.declared.registers.Reg.TheVariants.{Rax};
 ghost use Rattle.vw_insn.specs.declared.operands.Place.TheVariants as place;
-ghost use Rattle.vw_insn.specs.Words.{number};
 ghost use Rattle.vw_encode.specs.search.Asked.{places, with_word, with_byte, on_xmm, place_in, signed_in, count_in, signed_or_none, operands_asked, place_number, xmm_number, no_memory, place_memory, xmm_memory};
 
 use vw_insn::{Base, Count, HighReg, Insn, Mem, Place, Reg, Source, XmmOperand};
@@ -140,19 +139,12 @@ fn count_in(count: Count) -> u8
     }
 }
 
-// The number of a register (SDM volume 2, table 3-1).
-pub(crate) fn register_number(reg: Reg) -> u8
-    ensures { result ≡ number reg }
-{
-    reg as u8
-}
-
 // The number by which a field names the register, 0 for memory.
 pub(crate) fn place_number(place: Place) -> u8
     ensures { result ≡ place_number place }
 {
     match place {
-        Place::Reg(reg) => register_number(reg),
+        Place::Reg(reg) => reg.number(),
         Place::High(HighReg::Ah) => 4,
         Place::High(HighReg::Ch) => 5,
         Place::High(HighReg::Dh) => 6,

@@ -3,7 +3,7 @@ ghost use Rattle.std.specs.Int.{w32, cast_unsigned, to_le_bytes};
 ghost use Rattle.vw_encode.specs.search.Candidate.{operand_number, operand_memory, reg_field, digit_or_zero, rm_field, base_field, index_field, sib_field, modrm_byte, opcode_byte, immediate_block};
 ghost use Rattle.vw_rows.specs.Layout.{IsRex};
 
-use crate::asked::{Asked, place_memory, place_number, register_number, xmm_memory, xmm_number};
+use crate::asked::{Asked, place_memory, place_number, xmm_memory, xmm_number};
 use vw_insn::{Base, Mem, Reg, Width};
 use vw_rows::{Immediate, Operands, Pattern, Prefix, Row};
 
@@ -69,7 +69,7 @@ fn base_field(base: Base) -> u8
     ensures octal { result < 8 }
 {
     match base {
-        Base::Reg(reg) => register_number(reg) % 8,
+        Base::Reg(reg) => reg.number() % 8,
         Base::None | Base::Rip => 5,
     }
 }
@@ -81,7 +81,7 @@ fn index_field(index: Option<(Reg, u8)>) -> u8
 {
     match index {
         None => 4,
-        Some((reg, _)) => register_number(reg) % 8,
+        Some((reg, _)) => reg.number() % 8,
     }
 }
 

@@ -1,8 +1,8 @@
 //! The rows by kind of instruction: which rows an instruction may be spelled by, in their order.
 ghost use Rattle.std.specs.Prelude.{◌≡◌, ◌<◌, true};
-ghost use Rattle.vw_encode.specs.search.Kinds.{alu_number, cond_number, shift_number, unary_number, mul_div_number, bits_number, xmm_row_number, insn_number, rows_of_kind, are_numbers, kinds_agree};
+ghost use Rattle.vw_encode.specs.search.Kinds.{insn_number, rows_of_kind, are_numbers, kinds_agree};
 
-use vw_insn::{AluOp, BitsOp, Cond, Insn, MulDivOp, ShiftOp, UnaryOp, XmmRow};
+use vw_insn::Insn;
 
 // The numbers of the rows that may spell the instruction, ascending.
 pub(crate) fn candidates(insn: &Insn) -> &'static [u16]
@@ -193,18 +193,19 @@ fn kinds() -> &'static [&'static [u16]]
     &KINDS
 }
 
-// The kind of the instruction, 0 to 170.
+// The kind of the instruction, 0 to 170. Operations, conditions and rows of XMM instructions count by
+// their places in their enumerations.
 fn kind_of(insn: &Insn) -> u8
     ensures is { result ≡ insn_number insn.now }
     ensures bound { result < 171 }
 {
     match *insn {
-        Insn::Alu { op, .. } => alu_number(op),
+        Insn::Alu { op, .. } => op as u8,
         Insn::Push { .. } => 8,
         Insn::Pop { .. } => 9,
         Insn::Extend { .. } => 10,
         Insn::Imul { .. } => 11,
-        Insn::Jcc { cond, .. } => 12 + cond_number(cond),
+        Insn::Jcc { cond, .. } => 12 + cond as u8,
         Insn::Jump { .. } => 28,
         Insn::Call { .. } => 29,
         Insn::Ret => 30,
@@ -219,67 +220,16 @@ fn kind_of(insn: &Insn) -> u8
         Insn::Nop => 38,
         Insn::Widen { .. } => 39,
         Insn::SignA { .. } => 40,
-        Insn::Shift { op, .. } => 41 + shift_number(op),
-        Insn::Unary { op, .. } => 46 + unary_number(op),
-        Insn::MulDiv { op, .. } => 50 + mul_div_number(op),
+        Insn::Shift { op, .. } => 41 + op as u8,
+        Insn::Unary { op, .. } => 46 + op as u8,
+        Insn::MulDiv { op, .. } => 50 + op as u8,
         Insn::Ud2 => 54,
-        Insn::Cmov { cond, .. } => 55 + cond_number(cond),
-        Insn::Set { cond, .. } => 71 + cond_number(cond),
-        Insn::Bits { op, .. } => 87 + bits_number(op),
+        Insn::Cmov { cond, .. } => 55 + cond as u8,
+        Insn::Set { cond, .. } => 71 + cond as u8,
+        Insn::Bits { op, .. } => 87 + op as u8,
         Insn::Bt { .. } => 92,
         Insn::Bswap { .. } => 93,
         Insn::Endbr => 94,
-        Insn::Xmm { row, .. } => 95 + xmm_row_number(row),
+        Insn::Xmm { row, .. } => 95 + row as u8,
     }
-}
-
-// The numbers of operations, conditions and rows of XMM instructions are their places in the enumerations.
-
-fn alu_number(op: AluOp) -> u8
-    ensures is { result ≡ alu_number op }
-    ensures bound { result < 8 }
-{
-    op as u8
-}
-
-fn cond_number(cond: Cond) -> u8
-    ensures is { result ≡ cond_number cond }
-    ensures bound { result < 16 }
-{
-    cond as u8
-}
-
-fn shift_number(op: ShiftOp) -> u8
-    ensures is { result ≡ shift_number op }
-    ensures bound { result < 5 }
-{
-    op as u8
-}
-
-fn unary_number(op: UnaryOp) -> u8
-    ensures is { result ≡ unary_number op }
-    ensures bound { result < 4 }
-{
-    op as u8
-}
-
-fn mul_div_number(op: MulDivOp) -> u8
-    ensures is { result ≡ mul_div_number op }
-    ensures bound { result < 4 }
-{
-    op as u8
-}
-
-fn bits_number(op: BitsOp) -> u8
-    ensures is { result ≡ bits_number op }
-    ensures bound { result < 5 }
-{
-    op as u8
-}
-
-fn xmm_row_number(row: XmmRow) -> u8
-    ensures is { result ≡ xmm_row_number row }
-    ensures bound { result < 76 }
-{
-    row as u8
 }

@@ -1,8 +1,9 @@
 ghost use Rattle.std.specs.Prelude.{◌≡◌, ◌<◌, Some};
-ghost use Rattle.vw_encode.specs.search.Normal.{reads_w, reads_r, reads_x, reads_b, is_byte, extends_byte, reads_byte, read_bit, lean_bits, is_lean};
+ghost use Rattle.vw_rows.specs.Layout.{has_modrm};
+ghost use Rattle.vw_encode.specs.search.Normal.{reads_w, reads_r, reads_b, is_byte, extends_byte, reads_byte, read_bit, lean_bits, is_lean};
 
 use vw_insn::Width;
-use vw_rows::{Kind, Operands, Row, Sizing};
+use vw_rows::{Kind, Operands, Row, Sizing, has_modrm};
 
 /// Whether each set bit of REX is one that the row reads, and there is one, or REX is needed for itself.
 pub(crate) fn is_lean(row: Row, bits: u8) -> bool
@@ -12,11 +13,12 @@ pub(crate) fn is_lean(row: Row, bits: u8) -> bool
 }
 
 fn lean_bits(row: Row, bits: u8) -> u8
-    ensures { result ≡ lean_bits (reads_w row.width) (reads_r row.operands) (reads_x row.operands) (reads_b row.operands) bits }
+    ensures { result ≡ lean_bits (reads_w row.width) (reads_r row.operands)
+        (has_modrm row.operands) (reads_b row.operands) bits }
 {
     let w = read_bit(reads_w(row.width), bits / 8 % 2);
     let r = read_bit(reads_r(row.operands), bits / 4 % 2);
-    let x = read_bit(reads_x(row.operands), bits / 2 % 2);
+    let x = read_bit(has_modrm(row.operands), bits / 2 % 2);
     let b = read_bit(reads_b(row.operands), bits % 2);
     w * 8 + r * 4 + x * 2 + b
 }
@@ -44,27 +46,10 @@ fn reads_r(operands: Operands) -> bool
     matches!(operands, Operands::EG | Operands::GE | Operands::Xmm)
 }
 
-fn reads_x(operands: Operands) -> bool
-    ensures { result ≡ reads_x operands }
-{
-    matches!(
-        operands,
-        Operands::EG | Operands::GE | Operands::E | Operands::Xmm
-    )
-}
-
 fn reads_b(operands: Operands) -> bool
     ensures { result ≡ reads_b operands }
 {
-    matches!(
-        operands,
-        Operands::EG
-            | Operands::GE
-            | Operands::E
-            | Operands::OpcodeReg
-            | Operands::WithoutRexB
-            | Operands::Xmm
-    )
+    matches!(operands, Operands::OpcodeReg | Operands::WithoutRexB) || has_modrm(operands)
 }
 
 fn reads_byte(row: Row) -> bool

@@ -1,9 +1,10 @@
 -- Lists of bytes, and the bytes of an instruction's parts.
-use Rattle.std.proofs.Common.{ℕ, zero, suc, ◌<◌, List, [], ◌∷◌, ◌++◌, take, Option, None, Some, IfSome}
+use Rattle.std.proofs.Common.{ℕ, zero, suc, ◌+◌, ◌*◌, ◌^◌, ◌<◌, List, [], ◌∷◌, ◌++◌, take}
+use Rattle.std.proofs.Common.{Option, None, Some, IfSome}
 use Rattle.std.proofs.Common.{arith, inl, inr}
 use Rattle.std.proofs.lemmas.Bool.{cases_lt}
 use Rattle.std.proofs.lemmas.List.{length-take, get_or-take, get_or_past}
-use Rattle.vw_rows.specs.Numbers.{IsBytes}
+use Rattle.vw_rows.specs.Numbers.{IsBytes, unsigned_of}
 use Rattle.vw_rows.specs.Parts.{Modrm, Parts, bytes_of}
 use Rattle.vw_rows.specs.Parts.{prefix_bytes, rex_bytes, opcode_bytes, sib_bytes, modrm_bytes}
 
@@ -36,6 +37,21 @@ IsBytes-take n bytes h i =
           let past = get_or_past (take n bytes) i 0 (omega (arith, length-take n bytes)) in
           rw past (omega arith))
     ]
+
+-- ---- the number that they are
+
+eight_below :
+    (a b c d e f g h : ℕ) → a < 256 → b < 256 → c < 256 → d < 256 → e < 256 → f < 256 → g < 256
+    → h < 256
+    → a + 2 ^ 8 * b + 2 ^ 16 * c + 2 ^ 24 * d + 2 ^ 32 * e + 2 ^ 40 * f + 2 ^ 48 * g + 2 ^ 56 * h
+    < 2 ^ 64
+eight_below a b c d e f g h la lb lc ld le lf lg lh = omega arith
+
+-- it has 64 bits
+pub unsigned_below : (bytes : List ℕ) → IsBytes bytes → unsigned_of bytes < 2 ^ 64
+unsigned_below (a ∷ b ∷ c ∷ d ∷ e ∷ f ∷ g ∷ h ∷ []) are =
+    eight_below a b c d e f g h (are 0) (are 1) (are 2) (are 3) (are 4) (are 5) (are 6) (are 7)
+unsigned_below _ are = omega arith
 
 -- ---- the parts
 

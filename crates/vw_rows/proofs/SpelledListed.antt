@@ -1,5 +1,5 @@
 -- Every instruction that has a spelling is one that the texts and the statements are defined of.
-use Rattle.std.proofs.Common.{◌≡◌, ◌≢◌, ◌⊎◌, ℕ, zero, suc, ◌+◌, ◌*◌, ◌%◌, ◌^◌, ◌<◌, ◌≤◌, ◌==◌, ℤ, pos, negsuc, Bool, true, false, ◌&&◌, ◌||◌, List, [], ◌∷◌, length, get_or, Option, Some, None, IfSome, refl, sym, ◌∙◌, ap, subst, arith, ltb, inl, inr}
+use Rattle.std.proofs.Common.{◌≡◌, ◌≢◌, ◌⊎◌, ℕ, zero, suc, ◌+◌, ◌*◌, ◌^◌, ◌<◌, ◌≤◌, ◌==◌, ℤ, pos, negsuc, Bool, true, false, ◌&&◌, ◌||◌, List, [], ◌∷◌, length, get_or, Option, Some, None, IfSome, refl, sym, ◌∙◌, ap, subst, arith, inl, inr}
 use Rattle.std.specs.Prelude.{◌≤ℤ◌}
 use Rattle.std.proofs.lemmas.Bool.{and_parts, cases_Bool, false≢true}
 use Rattle.std.proofs.lemmas.Int.{ints}
@@ -29,14 +29,14 @@ use Rattle.vw_rows.specs.declared.forms.Row.{Row}
 use Rattle.vw_rows.specs.declared.shape.Shape.{Shape}
 use Rattle.vw_rows.specs.Rows.{rows}
 use Rattle.vw_rows.specs.Numbers.{IsBytes, signed_of, unsigned_of}
-use Rattle.vw_rows.specs.Parts.{Modrm, Parts, bytes_of, mode, rm, scale, index, rex_w, rex_r, rex_x, rex_b}
+use Rattle.vw_rows.specs.Parts.{Modrm, Parts, bytes_of, mode, scale, index, rex_w, rex_r, rex_x, rex_b}
 use Rattle.vw_rows.specs.Layout.{is_word, without_base, variable_width, wide_width, width_at, immediate_length, IsLaid}
-use Rattle.vw_rows.specs.Shape.{has_rex, byte_register, register_place, base_at, index_at, memory_at, rm_place, reg_number, xmm_operand, rm_width, first_place, second_place, xmm_register, xmm_second, signed_immediate, byte_immediate}
+use Rattle.vw_rows.specs.Shape.{register_place, base_at, index_at, memory_at, rm_place, reg_number, xmm_operand, rm_width, first_place, second_place, xmm_register, xmm_second, signed_immediate, byte_immediate}
 use Rattle.vw_rows.specs.Meaning.{memory_in, is_given, source_or, mov_immediate, built, insn_of}
 use Rattle.vw_rows.specs.Spelling.{Spells}
-use Rattle.vw_rows.proofs.Below.{below, below_at}
 use Rattle.vw_rows.proofs.Bytes.{ModrmBytes, OptionalBytes, part_bytes}
 use Rattle.vw_rows.proofs.Uniqueness.{rows_all}
+use Rattle.vw_rows.proofs.Places.{register_has, word_has, rm_has, first_has, second_has}
 
 -- ---- bytes of the parts
 
@@ -103,38 +103,27 @@ memory_listed rex m h = record { index = index_listed rex m.sib h; rip = rip_alo
 
 -- ---- operands
 
-byte_listed : (b : Bool) (n : ℕ) → IsPlace (byte_register b n)
-byte_listed true n = tt
-byte_listed false n = elim (cases_Bool (ltb n 4)) [ inl hit ↦ rw hit tt | inr miss ↦ rw miss tt ]
-
 register_listed : (w : Width) (rex : Option ℕ) (n : ℕ) → IsPlace (register_place w rex n)
-register_listed W8 rex n = byte_listed (has_rex rex) n
-register_listed W16 rex n = tt
-register_listed W32 rex n = tt
-register_listed W64 rex n = tt
+register_listed w rex n = register_has IsPlace (λ r. tt) (λ h. tt) w rex n
 
-register_full : (w : Width) (rex : Option ℕ) (n : ℕ) → IsWord w → IsFullPlace (register_place w rex n)
-register_full W8 rex n word = absurd word
-register_full W16 rex n word = tt
-register_full W32 rex n word = tt
-register_full W64 rex n word = tt
+register_full :
+    (w : Width) (rex : Option ℕ) (n : ℕ) → IsWord w → IsFullPlace (register_place w rex n)
+register_full w rex n word = word_has IsFullPlace (λ r. tt) w rex n word
 
 abbrev SibByte : Option Modrm → Type 0
 SibByte o = (m : Modrm) → o ≡ Some m → IsByte m.sib
 
-rm_listed : (w : Width) (rex : Option ℕ) (o : Option Modrm) → SibByte o → IsPlace (rm_place w rex o)
-rm_listed w rex None h = tt
-rm_listed w rex (Some m) h = elim (cases_Bool (mode m.byte == 3)) [
-  | inl hit ↦ rw hit (register_listed w rex (rm m.byte + 8 * rex_b rex))
-  | inr miss ↦ rw miss (memory_listed rex m (h m refl))
-]
+rm_listed :
+    (w : Width) (rex : Option ℕ) (o : Option Modrm) → SibByte o → IsPlace (rm_place w rex o)
+rm_listed w rex o h =
+    rm_has IsPlace w rex o tt (register_listed w rex) (λ m e. memory_listed rex m (h m e))
 
-rm_full : (w : Width) (rex : Option ℕ) (o : Option Modrm) → IsWord w → SibByte o → IsFullPlace (rm_place w rex o)
-rm_full w rex None word h = tt
-rm_full w rex (Some m) word h = elim (cases_Bool (mode m.byte == 3)) [
-  | inl hit ↦ rw hit (register_full w rex (rm m.byte + 8 * rex_b rex) word)
-  | inr miss ↦ rw miss (memory_listed rex m (h m refl))
-]
+rm_full :
+    (w : Width) (rex : Option ℕ) (o : Option Modrm) → IsWord w → SibByte o
+    → IsFullPlace (rm_place w rex o)
+rm_full w rex o word h =
+    rm_has IsFullPlace w rex o tt (λ n. register_full w rex n word)
+    (λ m e. memory_listed rex m (h m e))
 
 xmm_listed : (rex : Option ℕ) (o : Option Modrm) → SibByte o → IsXmmOperand (xmm_operand rex o)
 xmm_listed rex None h = omega arith
@@ -147,72 +136,46 @@ number_listed : (rex : Option ℕ) (o : Option Modrm) → reg_number rex o < 16
 number_listed rex None = omega arith
 number_listed rex (Some m) = let r = bit_r rex in omega arith
 
-first_listed : (o : Operands) (k : Kind) (w : Width) (p : Parts) → SibByte p.modrm → IsPlace (first_place o k w p)
-first_listed ops.None k w p h = tt
-first_listed ops.EG k w p h = rm_listed (rm_width k w) p.rex p.modrm h
-first_listed ops.GE k w p h = register_listed w p.rex (reg_number p.rex p.modrm)
-first_listed ops.Accumulator k w p h = tt
-first_listed ops.E k w p h = rm_listed (rm_width k w) p.rex p.modrm h
-first_listed ops.OpcodeReg k w p h = register_listed w p.rex (p.opcode % 8 + 8 * rex_b p.rex)
-first_listed ops.WithoutRexB k w p h = tt
-first_listed ops.EndsInFa k w p h = tt
-first_listed ops.Xmm k w p h = tt
+first_listed :
+    (o : Operands) (k : Kind) (w : Width) (p : Parts) → SibByte p.modrm
+    → IsPlace (first_place o k w p)
+first_listed o k w p h =
+    first_has IsPlace o k w p tt (register_listed w p.rex)
+    (rm_listed (rm_width k w) p.rex p.modrm h)
 
-second_listed : (o : Operands) (k : Kind) (w : Width) (p : Parts) → SibByte p.modrm → IsPlace (second_place o k w p)
-second_listed ops.None k w p h = tt
-second_listed ops.EG k w p h = register_listed w p.rex (reg_number p.rex p.modrm)
-second_listed ops.GE k w p h = rm_listed (rm_width k w) p.rex p.modrm h
-second_listed ops.Accumulator k w p h = tt
-second_listed ops.E k w p h = tt
-second_listed ops.OpcodeReg k w p h = tt
-second_listed ops.WithoutRexB k w p h = tt
-second_listed ops.EndsInFa k w p h = tt
-second_listed ops.Xmm k w p h = tt
+second_listed :
+    (o : Operands) (k : Kind) (w : Width) (p : Parts) → SibByte p.modrm
+    → IsPlace (second_place o k w p)
+second_listed o k w p h =
+    second_has IsPlace o k w p tt (register_listed w p.rex)
+    (rm_listed (rm_width k w) p.rex p.modrm h)
 
 -- a kind whose E has the width of the operation
-first_full : (o : Operands) (k : Kind) (w : Width) (p : Parts) → IsWord w → rm_width k w ≡ w → SibByte p.modrm → IsFullPlace (first_place o k w p)
-first_full ops.None k w p word e h = tt
-first_full ops.EG k w p word e h = rw e (rm_full w p.rex p.modrm word h)
-first_full ops.GE k w p word e h = register_full w p.rex (reg_number p.rex p.modrm) word
-first_full ops.Accumulator k w p word e h = tt
-first_full ops.E k w p word e h = rw e (rm_full w p.rex p.modrm word h)
-first_full ops.OpcodeReg k w p word e h = register_full w p.rex (p.opcode % 8 + 8 * rex_b p.rex) word
-first_full ops.WithoutRexB k w p word e h = tt
-first_full ops.EndsInFa k w p word e h = tt
-first_full ops.Xmm k w p word e h = tt
+rm_word :
+    (k : Kind) (w : Width) (p : Parts) → IsWord w → rm_width k w ≡ w → SibByte p.modrm
+    → IsFullPlace (rm_place (rm_width k w) p.rex p.modrm)
+rm_word k w p word e h = rw e (rm_full w p.rex p.modrm word h)
 
-second_full : (o : Operands) (k : Kind) (w : Width) (p : Parts) → IsWord w → rm_width k w ≡ w → SibByte p.modrm → IsFullPlace (second_place o k w p)
-second_full ops.None k w p word e h = tt
-second_full ops.EG k w p word e h = register_full w p.rex (reg_number p.rex p.modrm) word
-second_full ops.GE k w p word e h = rw e (rm_full w p.rex p.modrm word h)
-second_full ops.Accumulator k w p word e h = tt
-second_full ops.E k w p word e h = tt
-second_full ops.OpcodeReg k w p word e h = tt
-second_full ops.WithoutRexB k w p word e h = tt
-second_full ops.EndsInFa k w p word e h = tt
-second_full ops.Xmm k w p word e h = tt
+first_full :
+    (o : Operands) (k : Kind) (w : Width) (p : Parts) → IsWord w → rm_width k w ≡ w
+    → SibByte p.modrm → IsFullPlace (first_place o k w p)
+first_full o k w p word e h =
+    first_has IsFullPlace o k w p tt (λ n. register_full w p.rex n word) (rm_word k w p word e h)
+
+second_full :
+    (o : Operands) (k : Kind) (w : Width) (p : Parts) → IsWord w → rm_width k w ≡ w
+    → SibByte p.modrm → IsFullPlace (second_place o k w p)
+second_full o k w p word e h =
+    second_has IsFullPlace o k w p tt (λ n. register_full w p.rex n word) (rm_word k w p word e h)
 
 xmm_register_listed : (o : Operands) (p : Parts) → xmm_register o p < 16
-xmm_register_listed ops.None p = omega arith
-xmm_register_listed ops.EG p = omega arith
-xmm_register_listed ops.GE p = omega arith
-xmm_register_listed ops.Accumulator p = omega arith
-xmm_register_listed ops.E p = omega arith
-xmm_register_listed ops.OpcodeReg p = omega arith
-xmm_register_listed ops.WithoutRexB p = omega arith
-xmm_register_listed ops.EndsInFa p = omega arith
 xmm_register_listed ops.Xmm p = number_listed p.rex p.modrm
+xmm_register_listed _ p = omega arith
 
-xmm_second_listed : (o : Operands) (p : Parts) → SibByte p.modrm → IsXmmOperand (xmm_second o p)
-xmm_second_listed ops.None p h = omega arith
-xmm_second_listed ops.EG p h = omega arith
-xmm_second_listed ops.GE p h = omega arith
-xmm_second_listed ops.Accumulator p h = omega arith
-xmm_second_listed ops.E p h = omega arith
-xmm_second_listed ops.OpcodeReg p h = omega arith
-xmm_second_listed ops.WithoutRexB p h = omega arith
-xmm_second_listed ops.EndsInFa p h = omega arith
+xmm_second_listed :
+    (o : Operands) (p : Parts) → SibByte p.modrm → IsXmmOperand (xmm_second o p)
 xmm_second_listed ops.Xmm p h = xmm_listed p.rex p.modrm h
+xmm_second_listed _ p h = omega arith
 
 memory_in_listed : (p : Place) → IsPlace p → IsMem (memory_in p)
 memory_in_listed (place.Reg r) h = record { index = tt; rip = λ e. refl }
@@ -307,15 +270,10 @@ eg_is : (o : Operands) → is_eg o ≡ true → o ≡ ops.EG
 eg_is ops.EG h = refl
 eg_is _ h = absurd (false≢true h)
 
-byte_tested : (b : Bool) (n : ℕ) → IsTested (source.Place (byte_register b n))
-byte_tested true n = tt
-byte_tested false n = elim (cases_Bool (ltb n 4)) [ inl hit ↦ rw hit tt | inr miss ↦ rw miss tt ]
-
-register_tested : (w : Width) (rex : Option ℕ) (n : ℕ) → IsTested (source.Place (register_place w rex n))
-register_tested W8 rex n = byte_tested (has_rex rex) n
-register_tested W16 rex n = tt
-register_tested W32 rex n = tt
-register_tested W64 rex n = tt
+register_tested :
+    (w : Width) (rex : Option ℕ) (n : ℕ) → IsTested (source.Place (register_place w rex n))
+register_tested w rex n =
+    register_has (λ p. IsTested (source.Place p)) (λ r. tt) (λ h. tt) w rex n
 
 tested : (b : Bool) (o : Operands) (k : Kind) (w : Width) (p : Parts) (n : ℤ) → (b || is_eg o) ≡ true → IsTested (source_or b (second_place o k w p) n)
 tested true o k w p n h = tt
@@ -325,32 +283,21 @@ tested false o k w p n h = rw (eg_is o h) (register_tested w p.rex (reg_number p
 abbrev numbers_bit : Immediate → Operands → Bool
 numbers_bit imm.None o = is_eg o
 numbers_bit imm.Ib o = true
-numbers_bit imm.Iz o = false
-numbers_bit imm.Ub o = false
-numbers_bit imm.Rel8 o = false
-numbers_bit imm.Rel32 o = false
-numbers_bit imm.By1 o = false
-numbers_bit imm.Cl o = false
-numbers_bit imm.Iv o = false
-numbers_bit imm.OpcodeByte o = false
+numbers_bit _ o = false
 
-register_bit : (w : Width) (rex : Option ℕ) (n : ℕ) → IsWord w → IsBitNumber (source.Place (register_place w rex n))
-register_bit W8 rex n word = absurd word
-register_bit W16 rex n word = tt
-register_bit W32 rex n word = tt
-register_bit W64 rex n word = tt
+register_bit :
+    (w : Width) (rex : Option ℕ) (n : ℕ) → IsWord w
+    → IsBitNumber (source.Place (register_place w rex n))
+register_bit w rex n word = word_has (λ p. IsBitNumber (source.Place p)) (λ r. tt) w rex n word
 
-bit_number : (i : Immediate) (o : Operands) (k : Kind) (w : Width) (p : Parts) → numbers_bit i o ≡ true → IsWord w → length p.imm ≡ immediate_length i w → get_or p.imm 0 0 < 256 → IsBitNumber (source_or (is_given i) (second_place o k w p) (signed_immediate i p.imm))
-bit_number imm.None o k w p h word len byte = rw (eg_is o h) (register_bit w p.rex (reg_number p.rex p.modrm) word)
+bit_number :
+    (i : Immediate) (o : Operands) (k : Kind) (w : Width) (p : Parts) → numbers_bit i o ≡ true
+    → IsWord w → length p.imm ≡ immediate_length i w → get_or p.imm 0 0 < 256
+    → IsBitNumber (source_or (is_given i) (second_place o k w p) (signed_immediate i p.imm))
+bit_number imm.None o k w p h word len byte =
+    rw (eg_is o h) (register_bit w p.rex (reg_number p.rex p.modrm) word)
 bit_number imm.Ib o k w p h word len byte = signed_byte p.imm len byte
-bit_number imm.Iz o k w p h word len byte = absurd (false≢true h)
-bit_number imm.Ub o k w p h word len byte = absurd (false≢true h)
-bit_number imm.Rel8 o k w p h word len byte = absurd (false≢true h)
-bit_number imm.Rel32 o k w p h word len byte = absurd (false≢true h)
-bit_number imm.By1 o k w p h word len byte = absurd (false≢true h)
-bit_number imm.Cl o k w p h word len byte = absurd (false≢true h)
-bit_number imm.Iv o k w p h word len byte = absurd (false≢true h)
-bit_number imm.OpcodeByte o k w p h word len byte = absurd (false≢true h)
+bit_number _ o k w p h word len byte = absurd (false≢true h)
 
 mov_listed : (w : Width) (dst : Place) (n : ℤ) (word : ℕ) → IsPlace dst → IsListed (mov_immediate w dst n word)
 mov_listed W8 dst n word h = (h, tt)

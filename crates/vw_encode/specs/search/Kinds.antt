@@ -1,20 +1,14 @@
 -- The kinds of instructions by number, and the rows of each.
 use Rattle.std.specs.Prelude.{ℕ, ◌+◌, ◌==◌, Bool, true, false, ◌&&◌, List, [], ◌∷◌, filter}
 use denote.Bor.{Bor}
-use Rattle.vw_insn.specs.declared.operations.AluOp.{AluOp}
-use Rattle.vw_insn.specs.declared.operations.AluOp.TheVariants as alu
-use Rattle.vw_insn.specs.declared.operations.Cond.{Cond}
-use Rattle.vw_insn.specs.declared.operations.Cond.TheVariants as cond
-use Rattle.vw_insn.specs.declared.operations.ShiftOp.{ShiftOp}
-use Rattle.vw_insn.specs.declared.operations.ShiftOp.TheVariants as shift
-use Rattle.vw_insn.specs.declared.operations.UnaryOp.{UnaryOp}
-use Rattle.vw_insn.specs.declared.operations.UnaryOp.TheVariants as unary
-use Rattle.vw_insn.specs.declared.operations.MulDivOp.{MulDivOp}
-use Rattle.vw_insn.specs.declared.operations.MulDivOp.TheVariants as muldiv
-use Rattle.vw_insn.specs.declared.operations.BitsOp.{BitsOp}
-use Rattle.vw_insn.specs.declared.operations.BitsOp.TheVariants as bits
-use Rattle.vw_insn.specs.declared.xmm.XmmRow.{XmmRow}
-use Rattle.vw_insn.specs.declared.xmm.XmmRow.TheVariants as xmm
+use denote.Enum.Declared.{tag_of}
+use Rattle.vw_insn.specs.contracts.operations.AluOp.{the_type as alu_type}
+use Rattle.vw_insn.specs.contracts.operations.Cond.{the_type as cond_type}
+use Rattle.vw_insn.specs.contracts.operations.ShiftOp.{the_type as shift_type}
+use Rattle.vw_insn.specs.contracts.operations.UnaryOp.{the_type as unary_type}
+use Rattle.vw_insn.specs.contracts.operations.MulDivOp.{the_type as muldiv_type}
+use Rattle.vw_insn.specs.contracts.operations.BitsOp.{the_type as bits_type}
+use Rattle.vw_insn.specs.contracts.xmm.XmmRow.{the_type as xmm_type}
 use Rattle.vw_insn.specs.declared.instruction.Insn.{Insn}
 use Rattle.vw_insn.specs.declared.instruction.Insn.TheVariants as insn
 use Rattle.vw_rows.specs.declared.forms.Kind.{Kind}
@@ -22,147 +16,15 @@ use Rattle.vw_rows.specs.declared.forms.Kind.TheVariants as kind
 use Rattle.vw_rows.specs.declared.forms.Row.{Row}
 use Rattle.vw_rows.specs.Rows.{rows}
 
-abbrev pub alu_number : AluOp → ℕ
-alu_number alu.Add = 0
-alu_number alu.Or = 1
-alu_number alu.Adc = 2
-alu_number alu.Sbb = 3
-alu_number alu.And = 4
-alu_number alu.Sub = 5
-alu_number alu.Xor = 6
-alu_number alu.Cmp = 7
-
-abbrev pub cond_number : Cond → ℕ
-cond_number cond.O = 0
-cond_number cond.No = 1
-cond_number cond.B = 2
-cond_number cond.Ae = 3
-cond_number cond.E = 4
-cond_number cond.Ne = 5
-cond_number cond.Be = 6
-cond_number cond.A = 7
-cond_number cond.S = 8
-cond_number cond.Ns = 9
-cond_number cond.P = 10
-cond_number cond.Np = 11
-cond_number cond.L = 12
-cond_number cond.Ge = 13
-cond_number cond.Le = 14
-cond_number cond.G = 15
-
-abbrev pub shift_number : ShiftOp → ℕ
-shift_number shift.Rol = 0
-shift_number shift.Ror = 1
-shift_number shift.Shl = 2
-shift_number shift.Shr = 3
-shift_number shift.Sar = 4
-
-abbrev pub unary_number : UnaryOp → ℕ
-unary_number unary.Not = 0
-unary_number unary.Neg = 1
-unary_number unary.Inc = 2
-unary_number unary.Dec = 3
-
-abbrev pub mul_div_number : MulDivOp → ℕ
-mul_div_number muldiv.Mul = 0
-mul_div_number muldiv.Imul = 1
-mul_div_number muldiv.Div = 2
-mul_div_number muldiv.Idiv = 3
-
-abbrev pub bits_number : BitsOp → ℕ
-bits_number bits.Bsf = 0
-bits_number bits.Bsr = 1
-bits_number bits.Popcnt = 2
-bits_number bits.Tzcnt = 3
-bits_number bits.Lzcnt = 4
-
-abbrev pub xmm_row_number : XmmRow → ℕ
-xmm_row_number xmm.MovupsLoad = 0
-xmm_row_number xmm.MovupdLoad = 1
-xmm_row_number xmm.MovssLoad = 2
-xmm_row_number xmm.MovsdLoad = 3
-xmm_row_number xmm.MovupsStore = 4
-xmm_row_number xmm.MovupdStore = 5
-xmm_row_number xmm.MovssStore = 6
-xmm_row_number xmm.MovsdStore = 7
-xmm_row_number xmm.MovapsLoad = 8
-xmm_row_number xmm.MovapdLoad = 9
-xmm_row_number xmm.MovapsStore = 10
-xmm_row_number xmm.MovapdStore = 11
-xmm_row_number xmm.MovdqaLoad = 12
-xmm_row_number xmm.MovdquLoad = 13
-xmm_row_number xmm.MovdqaStore = 14
-xmm_row_number xmm.MovdquStore = 15
-xmm_row_number xmm.MovdLoad = 16
-xmm_row_number xmm.MovdStore = 17
-xmm_row_number xmm.MovqLoad = 18
-xmm_row_number xmm.MovqStore = 19
-xmm_row_number xmm.Sqrtps = 20
-xmm_row_number xmm.Sqrtpd = 21
-xmm_row_number xmm.Sqrtss = 22
-xmm_row_number xmm.Sqrtsd = 23
-xmm_row_number xmm.Addps = 24
-xmm_row_number xmm.Addpd = 25
-xmm_row_number xmm.Addss = 26
-xmm_row_number xmm.Addsd = 27
-xmm_row_number xmm.Mulps = 28
-xmm_row_number xmm.Mulpd = 29
-xmm_row_number xmm.Mulss = 30
-xmm_row_number xmm.Mulsd = 31
-xmm_row_number xmm.Subps = 32
-xmm_row_number xmm.Subpd = 33
-xmm_row_number xmm.Subss = 34
-xmm_row_number xmm.Subsd = 35
-xmm_row_number xmm.Minps = 36
-xmm_row_number xmm.Minpd = 37
-xmm_row_number xmm.Minss = 38
-xmm_row_number xmm.Minsd = 39
-xmm_row_number xmm.Divps = 40
-xmm_row_number xmm.Divpd = 41
-xmm_row_number xmm.Divss = 42
-xmm_row_number xmm.Divsd = 43
-xmm_row_number xmm.Maxps = 44
-xmm_row_number xmm.Maxpd = 45
-xmm_row_number xmm.Maxss = 46
-xmm_row_number xmm.Maxsd = 47
-xmm_row_number xmm.Andps = 48
-xmm_row_number xmm.Andpd = 49
-xmm_row_number xmm.Andnps = 50
-xmm_row_number xmm.Andnpd = 51
-xmm_row_number xmm.Orps = 52
-xmm_row_number xmm.Orpd = 53
-xmm_row_number xmm.Xorps = 54
-xmm_row_number xmm.Xorpd = 55
-xmm_row_number xmm.Cvtps2pd = 56
-xmm_row_number xmm.Cvtpd2ps = 57
-xmm_row_number xmm.Cvtss2sd = 58
-xmm_row_number xmm.Cvtsd2ss = 59
-xmm_row_number xmm.Cvtdq2ps = 60
-xmm_row_number xmm.Cvtps2dq = 61
-xmm_row_number xmm.Cvttps2dq = 62
-xmm_row_number xmm.Cvtsi2ss = 63
-xmm_row_number xmm.Cvtsi2sd = 64
-xmm_row_number xmm.Cvttss2si = 65
-xmm_row_number xmm.Cvttsd2si = 66
-xmm_row_number xmm.Cvtss2si = 67
-xmm_row_number xmm.Cvtsd2si = 68
-xmm_row_number xmm.Ucomiss = 69
-xmm_row_number xmm.Ucomisd = 70
-xmm_row_number xmm.Comiss = 71
-xmm_row_number xmm.Comisd = 72
-xmm_row_number xmm.Pxor = 73
-xmm_row_number xmm.Roundss = 74
-xmm_row_number xmm.Roundsd = 75
-
--- The kinds of rows, from 0 on: the operations of a kind, and the conditions, each have a number. MOV of an
--- immediate is a kind of MOV.
+-- The kinds of rows, from 0 on: an operation, a condition and a row of XMM instructions count by their
+-- places in their enumerations. MOV of an immediate is a kind of MOV.
 abbrev pub kind_number : Kind → ℕ
-kind_number (kind.Alu o) = alu_number o
+kind_number (kind.Alu o) = tag_of alu_type o
 kind_number kind.Push = 8
 kind_number kind.Pop = 9
 kind_number (kind.Extend signed from) = 10
 kind_number kind.Imul = 11
-kind_number (kind.Jcc o) = 12 + cond_number o
+kind_number (kind.Jcc o) = 12 + tag_of cond_type o
 kind_number kind.Jump = 28
 kind_number kind.Call = 29
 kind_number kind.Ret = 30
@@ -177,51 +39,54 @@ kind_number kind.Lea = 37
 kind_number kind.Nop = 38
 kind_number kind.Widen = 39
 kind_number kind.SignA = 40
-kind_number (kind.Shift o) = 41 + shift_number o
-kind_number (kind.Unary o) = 46 + unary_number o
-kind_number (kind.MulDiv o) = 50 + mul_div_number o
+kind_number (kind.Shift o) = 41 + tag_of shift_type o
+kind_number (kind.Unary o) = 46 + tag_of unary_type o
+kind_number (kind.MulDiv o) = 50 + tag_of muldiv_type o
 kind_number kind.Ud2 = 54
-kind_number (kind.Cmov o) = 55 + cond_number o
-kind_number (kind.Set o) = 71 + cond_number o
-kind_number (kind.Bits o) = 87 + bits_number o
+kind_number (kind.Cmov o) = 55 + tag_of cond_type o
+kind_number (kind.Set o) = 71 + tag_of cond_type o
+kind_number (kind.Bits o) = 87 + tag_of bits_type o
 kind_number kind.Bt = 92
 kind_number kind.Bswap = 93
 kind_number kind.Endbr = 94
-kind_number (kind.Xmm o) = 95 + xmm_row_number o
+kind_number (kind.Xmm o) = 95 + tag_of xmm_type o
 
--- the kind of an instruction
+-- the kind of the rows that an instruction may be spelled by
+abbrev pub kind_of : Insn → Kind
+kind_of (insn.Alu o w dst src) = kind.Alu o
+kind_of (insn.Push src) = kind.Push
+kind_of (insn.Pop dst) = kind.Pop
+kind_of (insn.Extend signed from to dst src) = kind.Extend signed from
+kind_of (insn.Imul w dst src n) = kind.Imul
+kind_of (insn.Jcc o rel) = kind.Jcc o
+kind_of (insn.Jump rel) = kind.Jump
+kind_of (insn.Call rel) = kind.Call
+kind_of insn.Ret = kind.Ret
+kind_of insn.Leave = kind.Leave
+kind_of (insn.CallInd src) = kind.CallInd
+kind_of (insn.JumpInd src) = kind.JumpInd
+kind_of (insn.Test w a b) = kind.Test
+kind_of (insn.Xchg w a b) = kind.Xchg
+kind_of (insn.Mov w dst src) = kind.Mov
+kind_of (insn.MovImm64 dst n) = kind.MovImm
+kind_of (insn.Lea w dst mem) = kind.Lea
+kind_of insn.Nop = kind.Nop
+kind_of (insn.Widen w) = kind.Widen
+kind_of (insn.SignA w) = kind.SignA
+kind_of (insn.Shift o w dst by) = kind.Shift o
+kind_of (insn.Unary o w dst) = kind.Unary o
+kind_of (insn.MulDiv o w src) = kind.MulDiv o
+kind_of insn.Ud2 = kind.Ud2
+kind_of (insn.Cmov o w dst src) = kind.Cmov o
+kind_of (insn.Set o dst) = kind.Set o
+kind_of (insn.Bits o w dst src) = kind.Bits o
+kind_of (insn.Bt w a bit) = kind.Bt
+kind_of (insn.Bswap w dst) = kind.Bswap
+kind_of insn.Endbr = kind.Endbr
+kind_of (insn.Xmm o wide r operand n) = kind.Xmm o
+
 abbrev pub insn_number : Insn → ℕ
-insn_number (insn.Alu o w dst src) = alu_number o
-insn_number (insn.Push src) = 8
-insn_number (insn.Pop dst) = 9
-insn_number (insn.Extend signed from to dst src) = 10
-insn_number (insn.Imul w dst src n) = 11
-insn_number (insn.Jcc o rel) = 12 + cond_number o
-insn_number (insn.Jump rel) = 28
-insn_number (insn.Call rel) = 29
-insn_number insn.Ret = 30
-insn_number insn.Leave = 31
-insn_number (insn.CallInd src) = 32
-insn_number (insn.JumpInd src) = 33
-insn_number (insn.Test w a b) = 34
-insn_number (insn.Xchg w a b) = 35
-insn_number (insn.Mov w dst src) = 36
-insn_number (insn.MovImm64 dst n) = 36
-insn_number (insn.Lea w dst mem) = 37
-insn_number insn.Nop = 38
-insn_number (insn.Widen w) = 39
-insn_number (insn.SignA w) = 40
-insn_number (insn.Shift o w dst by) = 41 + shift_number o
-insn_number (insn.Unary o w dst) = 46 + unary_number o
-insn_number (insn.MulDiv o w src) = 50 + mul_div_number o
-insn_number insn.Ud2 = 54
-insn_number (insn.Cmov o w dst src) = 55 + cond_number o
-insn_number (insn.Set o dst) = 71 + cond_number o
-insn_number (insn.Bits o w dst src) = 87 + bits_number o
-insn_number (insn.Bt w a bit) = 92
-insn_number (insn.Bswap w dst) = 93
-insn_number insn.Endbr = 94
-insn_number (insn.Xmm o wide r operand n) = 95 + xmm_row_number o
+insn_number i = kind_number (kind_of i)
 
 -- the rows of a kind, in their order
 unfoldable pub rows_of_kind : ℕ → List Row

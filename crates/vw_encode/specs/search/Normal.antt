@@ -31,26 +31,16 @@ abbrev pub implies : Bool → Bool → Bool
 implies a b = cond a b true
 
 abbrev pub asks_first : Operands → Bool
-asks_first ops.None = false
 asks_first ops.EG = true
 asks_first ops.GE = true
-asks_first ops.Accumulator = false
 asks_first ops.E = true
 asks_first ops.OpcodeReg = true
-asks_first ops.WithoutRexB = false
-asks_first ops.EndsInFa = false
-asks_first ops.Xmm = false
+asks_first _ = false
 
 abbrev pub asks_second : Operands → Bool
-asks_second ops.None = false
 asks_second ops.EG = true
 asks_second ops.GE = true
-asks_second ops.Accumulator = false
-asks_second ops.E = false
-asks_second ops.OpcodeReg = false
-asks_second ops.WithoutRexB = false
-asks_second ops.EndsInFa = false
-asks_second ops.Xmm = false
+asks_second _ = false
 
 -- an instruction of the kind, with an immediate or without, has the first operand of its row
 abbrev pub tells_first : Kind → Bool → Bool
@@ -155,15 +145,12 @@ is_memory Register = false
 
 -- the first operand is a register that is no byte
 abbrev pub full_first : Operands → Form → Bool → Bool
-full_first ops.None f x = false
 full_first ops.EG f x = is_register f && not x
 full_first ops.GE f x = true
 full_first ops.Accumulator f x = true
 full_first ops.E f x = is_register f && not x
 full_first ops.OpcodeReg f x = true
-full_first ops.WithoutRexB f x = false
-full_first ops.EndsInFa f x = false
-full_first ops.Xmm f x = false
+full_first _ f x = false
 
 abbrev pub is_eg : Operands → Bool
 is_eg ops.EG = true
@@ -266,39 +253,18 @@ reads_w size.Wide = true
 
 -- R: the reg field names a register
 abbrev pub reads_r : Operands → Bool
-reads_r ops.None = false
 reads_r ops.EG = true
 reads_r ops.GE = true
-reads_r ops.Accumulator = false
-reads_r ops.E = false
-reads_r ops.OpcodeReg = false
-reads_r ops.WithoutRexB = false
-reads_r ops.EndsInFa = false
 reads_r ops.Xmm = true
+reads_r _ = false
 
--- X: there may be an index
-abbrev pub reads_x : Operands → Bool
-reads_x ops.None = false
-reads_x ops.EG = true
-reads_x ops.GE = true
-reads_x ops.Accumulator = false
-reads_x ops.E = true
-reads_x ops.OpcodeReg = false
-reads_x ops.WithoutRexB = false
-reads_x ops.EndsInFa = false
-reads_x ops.Xmm = true
+-- X: there may be an index, so each row with ModRM reads it
 
 -- B: there is a register or a base, or the row fixes the bit
 abbrev pub reads_b : Operands → Bool
-reads_b ops.None = false
-reads_b ops.EG = true
-reads_b ops.GE = true
-reads_b ops.Accumulator = false
-reads_b ops.E = true
 reads_b ops.OpcodeReg = true
 reads_b ops.WithoutRexB = true
-reads_b ops.EndsInFa = false
-reads_b ops.Xmm = true
+reads_b o = has_modrm o
 
 abbrev pub is_byte : Sizing → Bool
 is_byte size.B = true
@@ -327,7 +293,9 @@ is_lean_bits w r x b y n = (lean_bits w r x b n == n) && (y || not (n == 0))
 -- no REX, or one that the row reads
 abbrev pub is_lean : Row → Option ℕ → Bool
 is_lean row None = true
-is_lean row (Some n) = is_lean_bits (reads_w row.width) (reads_r row.operands) (reads_x row.operands) (reads_b row.operands) (reads_byte row) n
+is_lean row (Some n) =
+    is_lean_bits (reads_w row.width) (reads_r row.operands) (has_modrm row.operands)
+    (reads_b row.operands) (reads_byte row) n
 
 pub record Normal (p : Parts) (row : Row) (insn : Insn) : Type 0 where
   pub width : Width
