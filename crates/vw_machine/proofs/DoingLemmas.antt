@@ -13,13 +13,16 @@ use Rattle.vw_image.specs.Image.{IsImage}
 use Rattle.vw_machine.specs.declared.world.World.{World}
 use Rattle.vw_machine.specs.declared.choice.Choice.{Choice}
 use Rattle.vw_machine.specs.declared.doing.Work.{Work}
+use Rattle.vw_machine.specs.declared.event.Event.TheVariants.{Read, Goto}
+use Rattle.vw_machine.specs.declared.standing.Outer.{Outer}
+use Rattle.vw_machine.specs.declared.standing.Outer.TheVariants as outer
 use Rattle.vw_machine.specs.World.{touches, guard_range, heap_range, IsLaidOut}
 use Rattle.vw_machine.specs.Module.{ModuleView, view_of}
 use Rattle.vw_machine.specs.State.{Activation, MachineState}
 use Rattle.vw_machine.specs.Standing.{Code, StandsAt}
-use Rattle.vw_machine.specs.Step.{after_insn, accesses, does_trap}
+use Rattle.vw_machine.specs.Step.{after_insn, accesses, does_trap, slot_address}
 use Rattle.vw_machine.specs.Events.{read_events, write_events, transfer_events, insn_events, events_of}
-use Rattle.vw_machine.specs.Found.{IsWork, is_trap, work_events}
+use Rattle.vw_machine.specs.Found.{here_of_outer, IsKnownOuter, IsWork, is_trap, outer_events, work_events}
 use Rattle.vw_machine.proofs.CodeLemmas.{Laws, function_ends}
 
 -- an instruction on general registers is given the word that it reads
@@ -96,6 +99,20 @@ module _ (m : ModuleView) (w : World) (s : MachineState) (choice : Choice) where
   pub code_events : (active : List Activation) (i : Insn) (len : ℕ) → StandsAt m w s.rip active (Code i len) → insn_events m w s i len choice ≡ events_of m w s active (Code i len) choice
   code_events [] i len stands = absurd stands
   code_events (top ∷ rest) i len stands = refl
+
+  -- the events of what is none of the module's code
+  pub events_of_outer :
+      (active : List Activation) (o : Outer) → StandsAt m w s.rip active (here_of_outer o)
+      → IsKnownOuter m w o
+      → outer_events w (record s { active = active }) o
+      ≡ events_of m w s active (here_of_outer o) choice
+  events_of_outer [] (outer.Stub slot to) stands known = absurd stands
+  events_of_outer [] outer.Host stands known = absurd stands
+  events_of_outer [] outer.Probe stands known = absurd stands
+  events_of_outer (top ∷ rest) (outer.Stub slot to) stands known =
+      ap (λ (n : ℕ). Read (slot_address w slot) 8 ∷ Goto n ∷ []) known
+  events_of_outer (top ∷ rest) outer.Host stands known = refl
+  events_of_outer (top ∷ rest) outer.Probe stands known = refl
 
 -- an instruction ends below the top of the address space
 pub code_ends : (laws : Laws) (m : Declared) → IsWhole m → IsImage m.image → (w : World) → IsLaidOut (view_of m).image (view_of m).imports w

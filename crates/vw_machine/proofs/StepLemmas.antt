@@ -1,5 +1,5 @@
 -- How a step ends, and what it leaves.
-use Rattle.std.proofs.Common.{◌≡◌, ℕ, ◌+◌, Bool, true, false, if◌then◌else◌, List, [], ◌∷◌, ◌++◌, refl, sym, ◌∙◌, ap}
+use Rattle.std.proofs.Common.{◌≡◌, ℕ, ◌+◌, Bool, true, false, if◌then◌else◌, List, [], ◌∷◌, ◌++◌, refl, sym, ◌∙◌, ap, subst}
 use Rattle.vw_insn.specs.declared.instruction.Insn.{Insn}
 use Rattle.vw_insn.specs.Words.{Registers, Flags}
 use Rattle.vw_insn.specs.Effect.{After, Transfer, Next, To, Enter, Back, Stop, reads}
@@ -14,12 +14,14 @@ use Rattle.vw_machine.specs.declared.machine.Frame.{Frame}
 use Rattle.vw_machine.specs.declared.doing.Work.{Work}
 use Rattle.vw_machine.specs.Module.{ModuleView}
 use Rattle.vw_machine.specs.State.{Bytes, Activation, MachineState, after_writes}
-use Rattle.vw_machine.specs.Standing.{Here, Code, StandsAt}
+use Rattle.vw_machine.specs.Standing.{Here, Code, Stub, Host, Probe, StandsAt}
 use Rattle.vw_machine.specs.Step.{Trapped, after_insn, accesses, does_trap, arrive, left, go, step, step_of, step_from}
 use Rattle.vw_machine.specs.Events.{transfer_events}
 use Rattle.vw_machine.specs.Kept.{activation_of, activations_of}
 use Rattle.vw_machine.specs.Answers.{AllPermitted, EndsAs}
-use Rattle.vw_machine.specs.Found.{IsWork, IsEnding, active_after, work_ending}
+use Rattle.vw_machine.specs.declared.standing.Outer.{Outer}
+use Rattle.vw_machine.specs.declared.standing.Outer.TheVariants as outer
+use Rattle.vw_machine.specs.Found.{here_of_outer, IsKnownOuter, IsWork, IsEnding, active_after, work_ending, outer_ending}
 use Rattle.vw_machine.proofs.FrameLemmas.{activations_of-push}
 
 -- the state that has these parts
@@ -98,3 +100,20 @@ module _ (m : ModuleView) (w : World) (s : MachineState) (choice : Choice) (here
       by_active : (active : List Activation) → s.active ≡ active → StandsAt m w s.rip active here → IsEnding s (step_of m w s active here choice) found s'
       by_active [] is stands = absurd (none stands)
       by_active (top ∷ rest) is stands = ending top rest is
+
+-- so does a step of what is none of the module's code
+pub outer_ends : (m : ModuleView) (w : World) (s : MachineState) (choice : Choice) (o : Outer)
+    → StandsAt m w s.rip s.active (here_of_outer o) → IsKnownOuter m w o
+    → AllPermitted m w s choice (here_of_outer o) → (found : Outcome) (s' : MachineState)
+    → ((top : Activation) (rest : List Activation) → s.active ≡ top ∷ rest
+    → IsEnding s (outer_ending w s top rest o choice) found s')
+    → EndsAs m w s choice (here_of_outer o) found s'
+outer_ends m w s choice (outer.Stub slot to) stands known all found s' ending =
+    ends_by m w s choice (Stub slot) (λ none. none) stands all found s'
+    (λ top rest active.
+    subst (λ (n : ℕ). IsEnding s (arrive w (record s { rip = n; active = record top { entry = n } ∷ rest })) found s')
+    known (ending top rest active))
+outer_ends m w s choice outer.Host stands known all found s' ending =
+    ends_by m w s choice Host (λ none. none) stands all found s' ending
+outer_ends m w s choice outer.Probe stands known all found s' ending =
+    ends_by m w s choice Probe (λ none. none) stands all found s' ending

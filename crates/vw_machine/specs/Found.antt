@@ -19,9 +19,11 @@ use Rattle.vw_machine.specs.declared.world.World.{World}
 use Rattle.vw_machine.specs.declared.event.Event.{Event}
 use Rattle.vw_machine.specs.declared.event.Outcome.{Outcome}
 use Rattle.vw_machine.specs.declared.event.Outcome.TheVariants as outcome
-use Rattle.vw_machine.specs.declared.event.Event.TheVariants.{Goto}
+use Rattle.vw_machine.specs.declared.event.Event.TheVariants.{Read, Goto}
 use Rattle.vw_machine.specs.declared.standing.Position.{Position}
 use Rattle.vw_machine.specs.declared.standing.Position.TheVariants as position
+use Rattle.vw_machine.specs.declared.standing.Outer.{Outer}
+use Rattle.vw_machine.specs.declared.standing.Outer.TheVariants as outer
 use Rattle.vw_machine.specs.declared.standing.Thing.{Thing}
 use Rattle.vw_machine.specs.declared.standing.Thing.TheVariants as thing
 use Rattle.vw_machine.specs.declared.doing.Deeds.{Deeds}
@@ -31,16 +33,19 @@ use Rattle.vw_machine.specs.World.{is_within, touches, guard_range, heap_range, 
 use Rattle.vw_machine.specs.Module.{ModuleView, is_in_table}
 use Rattle.vw_machine.specs.State.{Activation, MachineState}
 use Rattle.vw_machine.specs.Standing.{Here, Code, Stub, Host, Probe, Nowhere, IsInside, IsSpelledAt, IsHostAt, IsProbeAt}
-use Rattle.vw_machine.specs.Step.{Ending, Went, Returned, Trapped, after_insn, accesses, does_trap, slot_word, entered, go, arrive, host_leaves, probe_traps}
+use Rattle.vw_machine.specs.Step.{Ending, Went, Returned, Trapped, after_insn, accesses, does_trap, slot_word, slot_address, entered, go, arrive, host_registers, host_leaves, probe_traps}
 use Rattle.vw_machine.specs.Permitted.{is_pointer, Permitted}
 use Rattle.vw_machine.specs.Answers.{IsFirstRefused}
 use Rattle.vw_machine.specs.Events.{read_events, write_events, transfer_events}
 
+abbrev pub here_of_outer : Outer → Here
+here_of_outer (outer.Stub slot to) = Stub slot
+here_of_outer outer.Host = Host
+here_of_outer outer.Probe = Probe
+
 abbrev pub here_of : Thing → Here
 here_of (thing.Insn i len) = Code i len
-here_of (thing.Stub slot to) = Stub slot
-here_of thing.Host = Host
-here_of thing.Probe = Probe
+here_of (thing.Outer o) = here_of_outer o
 here_of thing.Nowhere = Nowhere
 
 -- a relocation gives the word
@@ -75,29 +80,42 @@ module _ (m : ModuleView) (w : World) where
   IsPositionOf top rip position.Unspelled = IsInside m w top rip × ((i : Insn) (len : ℕ) → ¬ IsSpelledAt m w top rip i len)
   IsPositionOf top rip (position.Spelled i len) = IsSpelledAt m w top rip i len × IsListed i
 
+  -- the word in a stub's slot
+  abbrev pub IsKnownOuter : Outer → Type 0
+  IsKnownOuter (outer.Stub slot to) = to ≡ slot_word m w slot
+  IsKnownOuter outer.Host = Unit {0}
+  IsKnownOuter outer.Probe = Unit {0}
+
   -- what is known of a thing beside where it stands
   abbrev pub IsKnown : Thing → Type 0
   IsKnown (thing.Insn i len) = IsListed i
-  IsKnown (thing.Stub slot to) = to ≡ slot_word m w slot
-  IsKnown thing.Host = Unit {0}
-  IsKnown thing.Probe = Unit {0}
+  IsKnown (thing.Outer o) = IsKnownOuter o
   IsKnown thing.Nowhere = Unit {0}
 
   -- the thing is the function of the host at rip, or there is none
   abbrev pub IsHostThing : ℕ → Thing → Type 0
   IsHostThing rip (thing.Insn i len) = ⊥
-  IsHostThing rip (thing.Stub slot to) = ⊥
-  IsHostThing rip thing.Host = IsHostAt m w rip
-  IsHostThing rip thing.Probe = IsProbeAt m w rip
+  IsHostThing rip (thing.Outer (outer.Stub slot to)) = ⊥
+  IsHostThing rip (thing.Outer outer.Host) = IsHostAt m w rip
+  IsHostThing rip (thing.Outer outer.Probe) = IsProbeAt m w rip
   IsHostThing rip thing.Nowhere = (¬ IsHostAt m w rip) × (¬ IsProbeAt m w rip)
 
 abbrev pub goto_events : Option ℕ → List Event
 goto_events None = []
 goto_events (Some to) = Goto to ∷ []
 
+-- the events that slots have, in order
+abbrev pub events_in : List (Option Event) → List Event
+events_in [] = []
+events_in (None ∷ slots) = events_in slots
+events_in (Some event ∷ slots) = event ∷ events_in slots
+
 -- the events of what a step does
 abbrev pub deed_events : Deeds → List Event
-deed_events deeds = read_events (reads_of deeds.reads) ++ write_events (places_of (writes_of deeds.write)) ++ goto_events deeds.goto
+deed_events deeds =
+    read_events (reads_of deeds.reads)
+    ++ write_events (places_of (writes_of deeds.write))
+    ++ goto_events deeds.goto
 
 -- an access touches the guard, or under the choice the heap
 abbrev pub is_trap : World → Choice → Access → Bool
@@ -107,6 +125,13 @@ is_trap w choice a = touches a.at a.size (guard_range w) || (choice.trap && touc
 abbrev pub back_of : List Activation → Option ℕ
 back_of [] = None
 back_of (top ∷ rest) = Some top.back
+
+-- the events of what is none of the module's code
+abbrev pub outer_events : World → MachineState → Outer → List Event
+outer_events w s (outer.Stub slot to) = Read (slot_address w slot) 8 ∷ Goto to ∷ []
+outer_events w s outer.Host = goto_events (back_of s.active)
+outer_events w s outer.Probe =
+    if probe_traps w s.registers then [] else goto_events (back_of s.active)
 
 -- the events of what an instruction does
 abbrev pub work_events : Work → List Event
@@ -148,7 +173,17 @@ work_ending w s top rest work =
     if work.traps then Trapped else go w s top rest (after_of work.after) work.next (transfer_of work.after.transfer)
 
 -- the ending of a step of the probe
-abbrev pub probe_ending : World → MachineState → Activation → List Activation → Choice → Ending
+abbrev pub probe_ending :
+    World → MachineState → Activation → List Activation → Choice → Ending
 probe_ending w s top rest choice =
     if probe_traps w s.registers then Trapped
     else arrive w (host_leaves w s top rest (put s.registers 4 (raised (s.registers 4))) choice)
+
+-- the ending of a step of what is none of the module's code
+abbrev pub outer_ending :
+    World → MachineState → Activation → List Activation → Outer → Choice → Ending
+outer_ending w s top rest (outer.Stub slot to) choice =
+    arrive w (record s { rip = to; active = record top { entry = to } ∷ rest })
+outer_ending w s top rest outer.Host choice =
+    arrive w (host_leaves w s top rest (host_registers s.registers choice) choice)
+outer_ending w s top rest outer.Probe choice = probe_ending w s top rest choice

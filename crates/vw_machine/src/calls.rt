@@ -1,77 +1,33 @@
 //! What the next step of a machine does, and whether it is permitted.
 
-ghost use Rattle.std.specs.Prelude.{◌≡◌, ◌↔◌, ◌++◌, [], ◌∷◌, IsTrue, IfOk, OnOk};
-ghost use Rattle.vw_effect.specs.Meaning.{access_of, reads_of, writes_of};
+ghost use Rattle.std.specs.Prelude.{◌≡◌, ◌↔◌, IsTrue, IfOk};
 ghost use Rattle.vw_layout.specs.Layout.{IsWhole};
-ghost use Rattle.vw_stmt.specs.Accesses.{places_of};
 ghost use Rattle.vw_machine.specs.Module.{view_of};
-ghost use Rattle.vw_machine.specs.Events.{read_events, write_events};
 ghost use Rattle.vw_machine.specs.Permitted.{IsPermitted};
 ghost use Rattle.vw_machine.specs.Kept.{state_of};
-ghost use Rattle.vw_machine.specs.Found.{goto_events, deed_events};
+ghost use Rattle.vw_machine.specs.Found.{deed_events};
 ghost use Rattle.vw_machine.specs.Answers.{IsPlaced, AreEvents};
 
 use crate::doing::{Deeds, deeds_of};
 use crate::judging::permits;
 use crate::laws::one_thing_stands;
+use crate::slots::slots_of;
 use crate::standing::thing_at;
 use crate::{Choice, Event, Machine, World};
 use std::alloc::Global;
 use vw_bits::{List, OutOfMemory};
-use vw_effect::{Access, Reads, Write};
 use vw_layout::Module;
-
-pub(crate) fn read_event(read: Access) -> Event
-    ensures { result ≡ Event.Read read.at read.size }
-{
-    Event::Read {
-        at: read.at,
-        size: read.size,
-    }
-}
-
-fn add_reads(events: &mut List<Event>, reads: Reads) -> Result<(), OutOfMemory>
-    ensures { OnOk result (events.new ≡ events.old ++ read_events (reads_of reads)) }
-{
-    match reads {
-        Reads::Nothing => {}
-        Reads::One(read) => events.push(read_event(read))?,
-        Reads::Two(first, second) => {
-            events.push(read_event(first))?;
-            events.push(read_event(second))?;
-        }
-    }
-    Ok(())
-}
-
-fn add_write(events: &mut List<Event>, write: Option<Write>) -> Result<(), OutOfMemory>
-    ensures { OnOk result (events.new ≡ events.old ++ write_events (places_of (writes_of write))) }
-{
-    match write {
-        Some(write) => events.push(Event::Write {
-            at: write.at,
-            size: write.size,
-        }),
-        None => Ok(()),
-    }
-}
-
-fn add_goto(events: &mut List<Event>, goto: Option<u64>) -> Result<(), OutOfMemory>
-    ensures { OnOk result (events.new ≡ events.old ++ goto_events goto) }
-{
-    match goto {
-        Some(to) => events.push(Event::Goto { to }),
-        None => Ok(()),
-    }
-}
 
 fn events_of(alloc: Global, deeds: &Deeds) -> Result<List<Event>, OutOfMemory>
     ensures { IfOk result (λ events. events ≡ deed_events deeds.now) }
 {
+    let slots = slots_of(deeds);
     let mut events = List::new(alloc);
-    add_reads(&mut events, deeds.reads)?;
-    add_write(&mut events, deeds.write)?;
-    add_goto(&mut events, deeds.goto)?;
+    for slot in &slots {
+        if let Some(event) = slot {
+            events.push(*event)?;
+        }
+    }
     Ok(events)
 }
 

@@ -14,14 +14,14 @@ ghost use Rattle.vw_machine.specs.Standing.{StandsAt, Code};
 ghost use Rattle.vw_machine.specs.Step.{loads, slot_address, probe_traps};
 ghost use Rattle.vw_machine.specs.Events.{transfer_events, events};
 ghost use Rattle.vw_machine.specs.Kept.{state_of};
-ghost use Rattle.vw_machine.specs.Found.{here_of, IsKnown, IsWork, is_trap, goto_events, back_of, work_events, deed_events};
+ghost use Rattle.vw_machine.specs.Found.{here_of, IsKnown, IsWork, is_trap, goto_events, back_of, outer_events, work_events, deed_events};
 ghost use Rattle.vw_machine.specs.Answers.{IsPlaced};
 
 use crate::choosing::open_of;
 use crate::judging::{GUARD, RESERVATION};
 use crate::loading::loaded;
 use crate::ranges::touches;
-use crate::standing::Thing;
+use crate::standing::{Outer, Thing};
 use crate::{Choice, Machine, World};
 use vw_bits::sum;
 use vw_effect::{Access, After, Reads, Transfer, Write, effect, may_trap, reads, reads_are_short};
@@ -262,6 +262,17 @@ fn probe_deeds(machine: &Machine, world: &World) -> Deeds
     }
 }
 
+// What the step of what is none of the module's code does.
+pub(crate) fn outer_deeds(machine: &Machine, world: &World, outer: Outer) -> Deeds
+    ensures { deed_events result ≡ outer_events world.now (state_of machine.now) outer }
+{
+    match outer {
+        Outer::Stub { slot, to } => stub_deeds(world, slot, to),
+        Outer::Host => transfer_to(return_address(machine)),
+        Outer::Probe => probe_deeds(machine, world),
+    }
+}
+
 // What the next step does.
 pub(crate) fn deeds_of(
     machine: &Machine,
@@ -284,9 +295,7 @@ pub(crate) fn deeds_of(
             let work = work_of(machine, module, world, choice, &insn, len);
             deeds_of_work(&work)
         }
-        Thing::Stub { slot, to } => stub_deeds(world, slot, to),
-        Thing::Host => transfer_to(return_address(machine)),
-        Thing::Probe => probe_deeds(machine, world),
+        Thing::Outer(outer) => outer_deeds(machine, world, outer),
         Thing::Nowhere => transfer_to(Some(machine.rip)),
     }
 }

@@ -9,13 +9,13 @@ ghost use Rattle.vw_machine.specs.Step.{slot_word};
 ghost use Rattle.vw_image.specs.declared.stub.Stub.{Stub as ImageStub};
 ghost use Rattle.vw_layout.specs.Layout.{IsWhole};
 ghost use Rattle.vw_machine.specs.Module.{view_of, is_in_table};
-ghost use Rattle.vw_machine.specs.Permitted.{IsReadableAt, is_pointer, MayRead, MayWrite, StaysInside, IsCallee, IsTabled, MayDo, StubMayDo, HostMayDo, Permitted};
+ghost use Rattle.vw_machine.specs.Permitted.{IsReadableAt, is_pointer, MayRead, MayWrite, StaysInside, IsCallee, IsTabled, MayDo, StubMayDo, HostMayDo, PermittedFrom, Permitted};
 ghost use Rattle.vw_machine.specs.Kept.{is_marked, activation_of, state_of};
-ghost use Rattle.vw_machine.specs.Found.{is_open, is_entry_to, has_entry_to, here_of, IsKnown};
+ghost use Rattle.vw_machine.specs.Found.{is_open, is_entry_to, has_entry_to, here_of_outer, here_of, IsKnownOuter, IsKnown};
 ghost use Rattle.vw_machine.specs.Answers.{IsPlaced};
 
 use crate::ranges::is_within;
-use crate::standing::{Thing, function_at, host_of, stub_at};
+use crate::standing::{Outer, Thing, function_at, host_of, stub_at};
 use crate::{Event, Frame, Machine, World};
 use vw_bits::{Segment, sum};
 use vw_effect::{Way, way_of};
@@ -38,7 +38,7 @@ const ENTRY: u64 = 16;
 fn is_in_table(table: &TableInfo, place: u64) -> bool
     ensures { result ≡ is_in_table place table.now }
 {
-    let count = table.entries.as_slice().len() as u64;
+    let count = table.entries.len() as u64;
     table.address <= place && (place - table.address) / ENTRY < count
 }
 
@@ -63,11 +63,7 @@ pub(crate) fn is_in_memory(module: &Module, place: u64) -> bool
 fn is_in_tables(module: &Module, place: u64) -> bool
     ensures { result ≡ list_any (is_in_table place) «module».now.tables }
 {
-    module
-        .tables
-        .as_slice()
-        .iter()
-        .any(|table| is_in_table(table, place))
+    module.tables.iter().any(|table| is_in_table(table, place))
 }
 
 // Whether the byte at a place is one of the image that may be read.
@@ -90,7 +86,8 @@ fn is_readable(module: &Module, world: &World, address: u64) -> bool
 // Whether each of `size` bytes from an address is one of the image that may be read.
 fn are_readable(module: &Module, world: &World, at: u64, size: u32) -> bool
     requires { IsPlaced «module».now world.now }
-    ensures { IsTrue result ↔ ((q : ℕ) → at ≤ q → q < at + size → IsReadableAt (view_of «module».now) world.now q) }
+    ensures { IsTrue result ↔ ((q : ℕ) → at ≤ q → q < at + size
+        → IsReadableAt (view_of «module».now) world.now q) }
 {
     for k in 0..size {
         match at.checked_add(k as u64) {
@@ -103,7 +100,8 @@ fn are_readable(module: &Module, world: &World, at: u64, size: u32) -> bool
 
 // Whether the activation has written each of `size` bytes from an address.
 fn are_written(top: &Frame, at: u64, size: u32) -> bool
-    ensures { IsTrue result ↔ ((q : ℕ) → at ≤ q → q < at + size → (activation_of top.now).written q ≡ true) }
+    ensures { IsTrue result ↔ ((q : ℕ) → at ≤ q → q < at + size
+        → (activation_of top.now).written q ≡ true) }
 {
     for k in 0..size {
         match at.checked_add(k as u64) {
@@ -125,7 +123,8 @@ fn is_marked(top: &Frame, address: u64) -> bool
 
 // Whether `size` bytes from an address are among the caller's 4,096 bytes above the return address.
 fn is_above(top: &Frame, at: u64, size: u32) -> bool
-    ensures { IsTrue result ↔ IsWithin at size (record { from = top.now.rsp0 + 8; to = top.now.rsp0 + 4104 }) }
+    ensures { IsTrue result ↔ IsWithin at size
+        (record { from = top.now.rsp0 + 8; to = top.now.rsp0 + 4104 }) }
 {
     match at.checked_sub(top.rsp0) {
         Some(distance) => is_within(distance, size, 8, 4_104),
@@ -156,7 +155,8 @@ fn is_in_globals(world: &World, at: u64, size: u32) -> bool
 
 fn may_read(module: &Module, world: &World, top: &Frame, at: u64, size: u32) -> bool
     requires { IsPlaced «module».now world.now }
-    ensures { IsTrue result ↔ MayRead (view_of «module».now) world.now (activation_of top.now) at size }
+    ensures { IsTrue result ↔ MayRead (view_of «module».now) world.now
+        (activation_of top.now) at size }
 {
     is_in_heap(world, at, size)
         || is_instance_word(world, at, size)
@@ -168,7 +168,8 @@ fn may_read(module: &Module, world: &World, top: &Frame, at: u64, size: u32) -> 
 
 fn may_write(module: &Module, world: &World, top: &Frame, at: u64, size: u32) -> bool
     requires { IsPlaced «module».now world.now }
-    ensures { IsTrue result ↔ MayWrite (view_of «module».now) world.now (activation_of top.now) at size }
+    ensures { IsTrue result ↔ MayWrite (view_of «module».now) world.now
+        (activation_of top.now) at size }
 {
     is_in_heap(world, at, size)
         || is_in_globals(world, at, size)
@@ -178,7 +179,8 @@ fn may_write(module: &Module, world: &World, top: &Frame, at: u64, size: u32) ->
 // Whether control stays in the code of the function that was entered last.
 fn stays_inside(module: &Module, world: &World, top: &Frame, to: u64) -> bool
     requires { IsWhole «module».now }
-    ensures { IsTrue result ↔ StaysInside (view_of «module».now) world.now (activation_of top.now) to }
+    ensures { IsTrue result ↔ StaysInside (view_of «module».now) world.now
+        (activation_of top.now) to }
 {
     functions_ascend();
     match function_at(module, world, top.entry) {
@@ -190,7 +192,8 @@ fn stays_inside(module: &Module, world: &World, top: &Frame, to: u64) -> bool
 // Whether a stub begins at an address.
 fn is_stub(module: &Module, world: &World, address: u64) -> bool
     requires { IsWhole «module».now }
-    ensures { IsTrue result ↔ ((place : ℕ) × (stub : ImageStub) × (address ≡ world.now.load + place) × ((view_of «module».now).stub place ≡ Some stub)) }
+    ensures { IsTrue result ↔ ((place : ℕ) × (stub : ImageStub) × (address ≡ world.now.load + place)
+        × ((view_of «module».now).stub place ≡ Some stub)) }
 {
     match stub_at(module, world, address) {
         Some(_) => true,
@@ -231,7 +234,6 @@ fn has_entry_to(world: &World, table: &TableInfo, to: u64) -> bool
 {
     table
         .entries
-        .as_slice()
         .iter()
         .any(|entry| is_entry_to(world, entry, to))
 }
@@ -242,7 +244,6 @@ fn is_tabled(module: &Module, world: &World, to: u64) -> bool
 {
     module
         .tables
-        .as_slice()
         .iter()
         .any(|table| has_entry_to(world, table, to))
 }
@@ -250,7 +251,8 @@ fn is_tabled(module: &Module, world: &World, to: u64) -> bool
 // Whether an instruction may go to an address.
 fn may_go(module: &Module, world: &World, top: &Frame, way: Way, to: u64) -> bool
     requires { IsWhole «module».now }
-    ensures { IsTrue result ↔ MayDo (view_of «module».now) world.now (activation_of top.now) (way_of way) (Event.Goto to) }
+    ensures { IsTrue result ↔ MayDo (view_of «module».now) world.now (activation_of top.now)
+        (way_of way) (Event.Goto to) }
 {
     match way {
         Way::Ordinary => stays_inside(module, world, top, to),
@@ -263,7 +265,8 @@ fn may_go(module: &Module, world: &World, top: &Frame, way: Way, to: u64) -> boo
 // Whether an instruction may read `size` bytes from an address.
 fn may_read_by(module: &Module, world: &World, top: &Frame, way: Way, at: u64, size: u32) -> bool
     requires { IsPlaced «module».now world.now }
-    ensures { IsTrue result ↔ MayDo (view_of «module».now) world.now (activation_of top.now) (way_of way) (Event.Read at size) }
+    ensures { IsTrue result ↔ MayDo (view_of «module».now) world.now (activation_of top.now)
+        (way_of way) (Event.Read at size) }
 {
     match way {
         Way::Return => at == top.rsp0 && size == 8,
@@ -274,7 +277,8 @@ fn may_read_by(module: &Module, world: &World, top: &Frame, way: Way, at: u64, s
 // Whether an instruction may write them.
 fn may_write_by(module: &Module, world: &World, top: &Frame, way: Way, at: u64, size: u32) -> bool
     requires { IsPlaced «module».now world.now }
-    ensures { IsTrue result ↔ MayDo (view_of «module».now) world.now (activation_of top.now) (way_of way) (Event.Write at size) }
+    ensures { IsTrue result ↔ MayDo (view_of «module».now) world.now (activation_of top.now)
+        (way_of way) (Event.Write at size) }
 {
     match way {
         Way::Ordinary | Way::Return | Way::Direct | Way::Indirect => {
@@ -286,7 +290,8 @@ fn may_write_by(module: &Module, world: &World, top: &Frame, way: Way, at: u64, 
 fn way_permits(module: &Module, world: &World, top: &Frame, way: Way, event: Event) -> bool
     requires whole { IsWhole «module».now }
     requires placed { IsPlaced «module».now world.now }
-    ensures { IsTrue result ↔ MayDo (view_of «module».now) world.now (activation_of top.now) (way_of way) event }
+    ensures { IsTrue result ↔ MayDo (view_of «module».now) world.now (activation_of top.now)
+        (way_of way) event }
 {
     match event {
         Event::Read { at, size } => may_read_by(module, world, top, way, at, size),
@@ -306,7 +311,8 @@ fn stub_permits(
 ) -> bool
     requires placed { IsPlaced «module».now world.now }
     requires known { word ≡ slot_word (view_of «module».now) world.now slot }
-    ensures { IsTrue result ↔ StubMayDo (view_of «module».now) world.now (activation_of top.now) slot event }
+    ensures { IsTrue result ↔ StubMayDo (view_of «module».now) world.now
+        (activation_of top.now) slot event }
 {
     match event {
         Event::Read { at, size } => {
@@ -319,12 +325,26 @@ fn stub_permits(
 
 fn host_permits(module: &Module, world: &World, top: &Frame, event: Event) -> bool
     requires { IsPlaced «module».now world.now }
-    ensures { IsTrue result ↔ HostMayDo (view_of «module».now) world.now (activation_of top.now) event }
+    ensures { IsTrue result ↔ HostMayDo (view_of «module».now) world.now
+        (activation_of top.now) event }
 {
     match event {
         Event::Read { at, size } => may_read(module, world, top, at, size),
         Event::Write { at, size } => may_write(module, world, top, at, size),
         Event::Goto { to } => to == top.back,
+    }
+}
+
+// Whether what is none of the module's code may do this.
+fn outer_permits(module: &Module, world: &World, top: &Frame, outer: Outer, event: Event) -> bool
+    requires placed { IsPlaced «module».now world.now }
+    requires known { IsKnownOuter (view_of «module».now) world.now outer }
+    ensures { IsTrue result ↔ PermittedFrom (view_of «module».now) world.now
+        (activation_of top.now) (here_of_outer outer) event }
+{
+    match outer {
+        Outer::Stub { slot, to } => stub_permits(module, world, top, slot, to, event),
+        Outer::Host | Outer::Probe => host_permits(module, world, top, event),
     }
 }
 
@@ -339,15 +359,15 @@ pub(crate) fn permits(
     requires whole { IsWhole «module».now }
     requires placed { IsPlaced «module».now world.now }
     requires known { IsKnown (view_of «module».now) world.now thing.now }
-    ensures { IsTrue result ↔ Permitted (view_of «module».now) world.now (state_of machine.now) (here_of thing.now) event }
+    ensures { IsTrue result ↔ Permitted (view_of «module».now) world.now (state_of machine.now)
+        (here_of thing.now) event }
 {
     let Some(top) = machine.active.last() else {
         return false;
     };
     match thing {
         Thing::Insn(insn, _) => way_permits(module, world, top, way_of(insn), event),
-        Thing::Stub { slot, to } => stub_permits(module, world, top, *slot, *to, event),
-        Thing::Host | Thing::Probe => host_permits(module, world, top, event),
+        Thing::Outer(outer) => outer_permits(module, world, top, *outer, event),
         Thing::Nowhere => false,
     }
 }

@@ -18,6 +18,7 @@ mod memory;
 mod placing;
 mod ranges;
 mod refusing;
+mod slots;
 mod standing;
 mod stepping;
 mod world;

@@ -26,13 +26,19 @@ use vw_layout::{Function, Module, functions_are_code, functions_ascend, imports_
 pub(crate) enum Thing {
     // An instruction of this length.
     Insn(Insn, u32),
+    Outer(Outer),
+    Nowhere,
+}
+
+// What is none of the code of the module's functions.
+#[derive(Clone, Copy)]
+pub(crate) enum Outer {
     // A stub, with its slot and the word in it.
     Stub { slot: u64, to: u64 },
     // A function of the host, but not the probe.
     Host,
     // The host's function that probes the stack.
     Probe,
-    Nowhere,
 }
 
 // Where rip lies, seen from the function whose code it may be.
@@ -46,8 +52,10 @@ enum Position {
 // The declared function that begins at a place of the image.
 fn function_with_entry(module: &Module, place: u64) -> Option<&Function>
     requires { IsWhole «module».now }
-    ensures some { IfSome result (λ f. Contains «module».now.functions f.now × (f.now.entry ≡ place)) }
-    ensures none { IfNone result ((f : Declared) → Contains «module».now.functions f → f.entry ≢ place) }
+    ensures some { IfSome result (λ f. Contains «module».now.functions f.now
+        × (f.now.entry ≡ place)) }
+    ensures none { IfNone result ((f : Declared) → Contains «module».now.functions f
+        → f.entry ≢ place) }
 {
     match module.function_at(place) {
         Some(number) => Some(&module.functions.as_slice()[number as usize]),
@@ -62,8 +70,10 @@ pub(crate) fn function_at<'a>(
     address: u64,
 ) -> Option<&'a Function>
     requires { IsWhole «module».now }
-    ensures some { IfSome result (λ f. Contains «module».now.functions f.now × (address ≡ world.now.load + f.now.entry)) }
-    ensures none { IfNone result ((f : Declared) → Contains «module».now.functions f → address ≢ world.now.load + f.entry) }
+    ensures some { IfSome result (λ f. Contains «module».now.functions f.now
+        × (address ≡ world.now.load + f.now.entry)) }
+    ensures none { IfNone result ((f : Declared) → Contains «module».now.functions f
+        → address ≢ world.now.load + f.entry) }
 {
     match address.checked_sub(world.load) {
         Some(place) => function_with_entry(module, place),
@@ -76,7 +86,8 @@ pub(crate) fn entry_of(module: &Module, world: &World, number: u32) -> u64
     requires whole { IsWhole «module».now }
     requires placed { IsPlaced «module».now world.now }
     requires declared { number < length «module».now.functions }
-    ensures { (f : Declared) → slice_get «module».now.functions number ≡ Some f → result ≡ world.now.load + f.entry }
+    ensures { (f : Declared) → slice_get «module».now.functions number ≡ Some f
+        → result ≡ world.now.load + f.entry }
 {
     functions_are_code();
     segments_are_bounded();
@@ -97,7 +108,8 @@ fn spelled_in(
     requires listed { Contains «module».now.functions function.now }
     requires entered { top.now.entry ≡ world.now.load + function.now.entry }
     requires inside { point < function.now.size }
-    ensures { IsPositionOf (view_of «module».now) world.now (activation_of top.now) (top.now.entry + point) result }
+    ensures { IsPositionOf (view_of «module».now) world.now (activation_of top.now)
+        (top.now.entry + point) result }
 {
     functions_are_code();
     functions_ascend();
@@ -163,8 +175,10 @@ fn stub_with_place(module: &Module, place: u64) -> Option<Stub>
 // The stub of the module at an address of an instance.
 pub(crate) fn stub_at(module: &Module, world: &World, address: u64) -> Option<Stub>
     requires { IsWhole «module».now }
-    ensures some { IfSome result (λ stub. (place : ℕ) × (address ≡ world.now.load + place) × ((view_of «module».now).stub place ≡ Some stub)) }
-    ensures none { IfNone result ((place : ℕ) (stub : ImageStub) → address ≡ world.now.load + place → (view_of «module».now).stub place ≢ Some stub) }
+    ensures some { IfSome result (λ stub. (place : ℕ) × (address ≡ world.now.load + place)
+        × ((view_of «module».now).stub place ≡ Some stub)) }
+    ensures none { IfNone result ((place : ℕ) (stub : ImageStub) → address ≡ world.now.load + place
+        → (view_of «module».now).stub place ≢ Some stub) }
 {
     match address.checked_sub(world.load) {
         Some(place) => stub_with_place(module, place),
@@ -235,9 +249,9 @@ fn host_at(module: &Module, world: &World, rip: u64) -> Thing
     match import_at(world, rip) {
         Some(number) => {
             if is_probe(module, number) {
-                Thing::Probe
+                Thing::Outer(Outer::Probe)
             } else {
-                Thing::Host
+                Thing::Outer(Outer::Host)
             }
         }
         None => Thing::Nowhere,
@@ -249,14 +263,15 @@ fn thing_outside(module: &Module, world: &World, top: &Frame, rip: u64) -> Thing
     requires whole { IsWhole «module».now }
     requires placed { IsPlaced «module».now world.now }
     requires outside { ¬ IsInside (view_of «module».now) world.now (activation_of top.now) rip }
-    ensures stands { StandsFor (view_of «module».now) world.now (activation_of top.now) rip (here_of result) }
+    ensures stands { StandsFor (view_of «module».now) world.now (activation_of top.now) rip
+        (here_of result) }
     ensures known { IsKnown (view_of «module».now) world.now result }
 {
     if rip != top.entry {
         return host_at(module, world, rip);
     }
     match stub_there(module, world, rip) {
-        Some((slot, to)) => Thing::Stub { slot, to },
+        Some((slot, to)) => Thing::Outer(Outer::Stub { slot, to }),
         None => host_at(module, world, rip),
     }
 }
@@ -265,8 +280,12 @@ fn thing_outside(module: &Module, world: &World, top: &Frame, rip: u64) -> Thing
 fn stub_there(module: &Module, world: &World, address: u64) -> Option<(u64, u64)>
     requires whole { IsWhole «module».now }
     requires placed { IsPlaced «module».now world.now }
-    ensures some { IfSome result (λ found. (place : ℕ) × (stub : ImageStub) × (address ≡ world.now.load + place) × ((view_of «module».now).stub place ≡ Some stub) × (found.0 ≡ stub.slot) × (found.1 ≡ slot_word (view_of «module».now) world.now stub.slot)) }
-    ensures none { IfNone result ((place : ℕ) (stub : ImageStub) → address ≡ world.now.load + place → (view_of «module».now).stub place ≢ Some stub) }
+    ensures some { IfSome result (λ found. (place : ℕ) × (stub : ImageStub)
+        × (address ≡ world.now.load + place) × ((view_of «module».now).stub place ≡ Some stub)
+        × (found.0 ≡ stub.slot) × (found.1
+        ≡ slot_word (view_of «module».now) world.now stub.slot)) }
+    ensures none { IfNone result ((place : ℕ) (stub : ImageStub) → address ≡ world.now.load + place
+        → (view_of «module».now).stub place ≢ Some stub) }
 {
     let Some(place) = address.checked_sub(world.load) else {
         return None;
@@ -281,7 +300,8 @@ fn stub_there(module: &Module, world: &World, address: u64) -> Option<(u64, u64)
 fn thing_for(module: &Module, world: &World, top: &Frame, rip: u64) -> Thing
     requires whole { IsWhole «module».now }
     requires placed { IsPlaced «module».now world.now }
-    ensures stands { StandsFor (view_of «module».now) world.now (activation_of top.now) rip (here_of result) }
+    ensures stands { StandsFor (view_of «module».now) world.now (activation_of top.now) rip
+        (here_of result) }
     ensures known { IsKnown (view_of «module».now) world.now result }
 {
     match position_of(module, world, top, rip) {
@@ -295,7 +315,8 @@ fn thing_for(module: &Module, world: &World, top: &Frame, rip: u64) -> Thing
 pub(crate) fn thing_at(machine: &Machine, module: &Module, world: &World) -> Thing
     requires whole { IsWhole «module».now }
     requires placed { IsPlaced «module».now world.now }
-    ensures stands { let s = state_of machine.now in StandsAt (view_of «module».now) world.now s.rip s.active (here_of result) }
+    ensures stands { let s = state_of machine.now in StandsAt
+        (view_of «module».now) world.now s.rip s.active (here_of result) }
     ensures known { IsKnown (view_of «module».now) world.now result }
 {
     match machine.active.last() {

@@ -8,16 +8,16 @@ ghost use Rattle.vw_effect.specs.Meaning.{registers_of, after_of, transfer_of};
 ghost use Rattle.vw_layout.specs.Layout.{IsWhole};
 ghost use Rattle.vw_machine.specs.Module.{view_of};
 ghost use Rattle.vw_machine.specs.State.{Activation, MachineState};
-ghost use Rattle.vw_machine.specs.Standing.{StandsAt, Code, Stub, Host, Probe};
-ghost use Rattle.vw_machine.specs.Step.{slot_word, arrive, host_registers, host_leaves};
+ghost use Rattle.vw_machine.specs.Standing.{StandsAt, Code};
+ghost use Rattle.vw_machine.specs.Step.{arrive, host_registers, host_leaves};
 ghost use Rattle.vw_machine.specs.Kept.{activation_of, activations_of, state_of};
-ghost use Rattle.vw_machine.specs.Found.{IsEnding, active_after, work_ending, probe_ending};
+ghost use Rattle.vw_machine.specs.Found.{here_of_outer, IsKnownOuter, IsEnding, active_after, work_ending, probe_ending, outer_ending};
 ghost use Rattle.vw_machine.specs.Answers.{IsPlaced, EndsAs, IsAnswer};
 
 use crate::choosing::{flags_in, number_of};
-use crate::doing::{Work, deeds_of, deeds_of_work, goto_of, probe_traps, work_of};
+use crate::doing::{Work, deeds_of_work, goto_of, outer_deeds, probe_traps, work_of};
 use crate::refusing::first_refused;
-use crate::standing::{Thing, thing_at};
+use crate::standing::{Outer, Thing, thing_at};
 use crate::writing::{leave_below, settle};
 use crate::{Choice, Event, Frame, Machine, Outcome, World};
 use std::alloc::Global;
@@ -217,82 +217,59 @@ fn insn_step(
 {
     let work = work_of(machine, module, world, choice, insn, len);
     let thing = Thing::Insn(*insn, len);
-    match first_refused(machine, module, world, &thing, deeds_of_work(&work)) {
+    match first_refused(machine, module, world, &thing, &deeds_of_work(&work)) {
         Some(event) => Ok(Outcome::Violation(event)),
         None => go(machine, alloc, world, &work),
     }
 }
 
-// A step of a stub with this slot, in which this word is.
-fn stub_step(
+// What is none of the module's code goes on: to the word in a stub's slot, or back from the host.
+fn pass_outer(
     machine: &mut Machine,
-    module: &Module,
     world: &World,
     choice: &Choice,
-    slot: u64,
-    to: u64,
+    outer: Outer,
 ) -> Result<Outcome, OutOfMemory>
-    requires whole { IsWhole «module».now }
-    requires placed { IsPlaced «module».now world.now }
-    requires known { to ≡ slot_word (view_of «module».now) world.now slot }
-    requires stands { StandsAt (view_of «module».now) world.now machine.old.rip
-        (state_of machine.old).active (Stub slot) }
-    ensures ok { IfOk result (λ outcome. EndsAs (view_of «module».now) world.now
-        (state_of machine.old) choice.now (Stub slot) outcome (state_of machine.new)) }
+    ensures ok { IfOk result (λ outcome. (top : Activation) (rest : List Activation)
+        → (state_of machine.old).active ≡ top ∷ rest
+        → IsEnding (state_of machine.old)
+        (outer_ending world.now (state_of machine.old) top rest outer choice.now) outcome
+        (state_of machine.new)) }
     ensures err { OnErr result (state_of machine.new ≡ state_of machine.old) }
 {
-    let thing = Thing::Stub { slot, to };
-    let deeds = deeds_of(machine, module, world, choice, &thing);
-    match first_refused(machine, module, world, &thing, deeds) {
-        Some(event) => Ok(Outcome::Violation(event)),
-        None => follow(machine, world, to),
-    }
-}
-
-// A step of a function of the host.
-fn host_step(
-    machine: &mut Machine,
-    module: &Module,
-    world: &World,
-    choice: &Choice,
-) -> Result<Outcome, OutOfMemory>
-    requires whole { IsWhole «module».now }
-    requires placed { IsPlaced «module».now world.now }
-    requires stands { StandsAt (view_of «module».now) world.now machine.old.rip
-        (state_of machine.old).active Host }
-    ensures ok { IfOk result (λ outcome. EndsAs (view_of «module».now) world.now
-        (state_of machine.old) choice.now Host outcome (state_of machine.new)) }
-    ensures err { OnErr result (state_of machine.new ≡ state_of machine.old) }
-{
-    let deeds = deeds_of(machine, module, world, choice, &Thing::Host);
-    match first_refused(machine, module, world, &Thing::Host, deeds) {
-        Some(event) => Ok(Outcome::Violation(event)),
-        None => {
+    match outer {
+        Outer::Stub { slot: _, to } => follow(machine, world, to),
+        Outer::Host => {
             let registers = host_registers(&machine.registers, choice);
             come_back(machine, world, choice, registers)
         }
+        Outer::Probe => pass_probe(machine, world, choice),
     }
 }
 
-// A step of the host's function that probes the stack.
-fn probe_step(
+// A step of what is none of the module's code.
+fn outer_step(
     machine: &mut Machine,
     module: &Module,
     world: &World,
     choice: &Choice,
+    outer: Outer,
 ) -> Result<Outcome, OutOfMemory>
     requires whole { IsWhole «module».now }
     requires placed { IsPlaced «module».now world.now }
+    requires known { IsKnownOuter (view_of «module».now) world.now outer }
     requires stands { StandsAt (view_of «module».now) world.now machine.old.rip
-        (state_of machine.old).active Probe }
+        (state_of machine.old).active (here_of_outer outer) }
     ensures ok { IfOk result (λ outcome. EndsAs (view_of «module».now) world.now
-        (state_of machine.old) choice.now Probe outcome (state_of machine.new)) }
+        (state_of machine.old) choice.now (here_of_outer outer) outcome
+        (state_of machine.new)) }
     ensures err { OnErr result (state_of machine.new ≡ state_of machine.old) }
 {
-    let deeds = deeds_of(machine, module, world, choice, &Thing::Probe);
-    match first_refused(machine, module, world, &Thing::Probe, deeds) {
+    let thing = Thing::Outer(outer);
+    let deeds = outer_deeds(machine, world, outer);
+    match first_refused(machine, module, world, &thing, &deeds) {
         Some(event) => Ok(Outcome::Violation(event)),
-        None => pass_probe(machine, world, choice),
+        None => pass_outer(machine, world, choice, outer),
     }
 }
 
@@ -316,9 +293,7 @@ impl Machine {
     {
         match thing_at(self, module, world) {
             Thing::Insn(insn, len) => insn_step(self, alloc, module, world, choice, &insn, len),
-            Thing::Stub { slot, to } => stub_step(self, module, world, choice, slot, to),
-            Thing::Host => host_step(self, module, world, choice),
-            Thing::Probe => probe_step(self, module, world, choice),
+            Thing::Outer(outer) => outer_step(self, module, world, choice, outer),
             Thing::Nowhere => Ok(Outcome::Violation(Event::Goto { to: self.rip })),
         }
     }

@@ -21,7 +21,7 @@ use Rattle.vw_machine.specs.Permitted.{Permitted}
 use Rattle.vw_sandbox.specs.Claims.{StepPassesHeap}
 use Rattle.vw_sandbox.specs.Maps.{Map, StepKeepsToMap}
 use Rattle.vw_sandbox.specs.Assertions.{Moment, SameFrom, IsEntered, AreKept}
-use Rattle.vw_sandbox.proofs.Instances.{stack_ends}
+use Rattle.vw_machine.proofs.Regions.{stack_ends}
 use Rattle.vw_sandbox.proofs.Suspended.{state_with, Chain, IsStubAlone, IsPlainStub, IsProbing, Outside, Probing, Doing, in_function, probing}
 use Rattle.vw_sandbox.proofs.Chains.{chain_kept, chain_entry, back_at}
 use Rattle.vw_sandbox.proofs.SetUp.{IsSetUp, code_not_home, host_not_image, host_not_home}

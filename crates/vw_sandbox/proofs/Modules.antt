@@ -24,7 +24,7 @@ use Rattle.vw_machine.specs.Module.{ModuleView, module_of, bytes_from, segment_r
 use Rattle.vw_machine.proofs.CodeLemmas.{IsFound, found_of}
 use Rattle.vw_machine.proofs.Lists.{any_of, and_both, Contains-map}
 use Rattle.vw_sandbox.specs.Gathered.{FileLaws}
-use Rattle.vw_sandbox.proofs.Instances.{all_of}
+use Rattle.vw_machine.proofs.Regions.{all_of}
 
 both_none : {A : Type 0} (a b : Option A) → option_or a b ≡ None → (a ≡ None) × (b ≡ None)
 both_none None b none = (refl, none)

@@ -18,7 +18,8 @@ use Rattle.vw_machine.specs.State.{Activation}
 use Rattle.vw_machine.specs.Step.{is_saved, loads}
 use Rattle.vw_sandbox.specs.Maps.{entries}
 use Rattle.vw_sandbox.specs.Assertions.{Moment, SavesRegisters, IsRunning, IsStepKept, IsPointKept, AreKept}
-use Rattle.vw_sandbox.proofs.Instances.{stack_ends, heap_or_stack}
+use Rattle.vw_machine.proofs.Regions.{stack_ends}
+use Rattle.vw_sandbox.proofs.Instances.{heap_or_stack}
 use Rattle.vw_sandbox.proofs.SetUp.{IsSetUp}
 
 chosen : {A : Type 0} (b : Bool) (x y : A) → b ≡ false → (if b then x else y) ≡ y

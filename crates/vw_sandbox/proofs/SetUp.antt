@@ -16,7 +16,8 @@ use Rattle.vw_machine.specs.Standing.{IsHostAt}
 use Rattle.vw_machine.specs.Step.{slot_word}
 use Rattle.vw_machine.specs.Permitted.{is_pointer}
 use Rattle.vw_sandbox.specs.Claims.{IsProbeStub}
-use Rattle.vw_sandbox.proofs.Instances.{all_of, host_elsewhere}
+use Rattle.vw_machine.proofs.Regions.{all_of}
+use Rattle.vw_sandbox.proofs.Instances.{host_elsewhere}
 use Rattle.vw_sandbox.specs.Gathered.{StandsAlone}
 
 -- n places from this one on lie in the memory of a segment

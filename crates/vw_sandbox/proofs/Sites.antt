@@ -49,7 +49,8 @@ use Rattle.vw_machine.specs.Module.{ModuleView, declared_module, view_of, segmen
 use Rattle.vw_machine.specs.State.{Bytes, Activation}
 use Rattle.vw_machine.specs.Step.{is_in_image, image_number, loads}
 use Rattle.vw_sandbox.specs.Assertions.{Moment}
-use Rattle.vw_sandbox.proofs.Instances.{all_of, heap_ends, stack_ends, heap_or_stack, image_low}
+use Rattle.vw_machine.proofs.Regions.{all_of, heap_ends, stack_ends}
+use Rattle.vw_sandbox.proofs.Instances.{heap_or_stack, image_low}
 use Rattle.vw_sandbox.proofs.Stating.{load_fits, image_fits}
 
 -- ---- the instance that values speak of

@@ -69,7 +69,8 @@ use Rattle.vw_sandbox.proofs.Jumps.{entry_leads, each_target, each_edge, told_by
 use Rattle.vw_machine.proofs.CodeLemmas.{found_of}
 use Rattle.vw_sandbox.proofs.Modules.{HoldsCode, code_bytes, IsBytes-drop}
 use Rattle.vw_sandbox.proofs.Rules.{any_passes, is_some_of, or_cases}
-use Rattle.vw_sandbox.proofs.Spellings.{begins_some, spelled_word}
+use Rattle.vw_state.proofs.Displacements.{spelled_word}
+use Rattle.vw_sandbox.proofs.Spellings.{begins_some}
 use Rattle.vw_sandbox.proofs.StubReads.{ReadsOnly, ReadsNone}
 
 -- the tables by the forms of their states

@@ -76,7 +76,7 @@ use Rattle.vw_sandbox.specs.Tables.{Tables, Bounds, site_at, Lands, IsProbeAt, C
 use Rattle.vw_sandbox.proofs.DomainLaws.{DomainLaws, WritesInFrame}
 use Rattle.vw_sandbox.proofs.StatementRuns.{WordsStay, Ran, ran, touched, marking, Stood}
 use Rattle.vw_sandbox.proofs.InstructionLists.{way_of, way_is, ret_alone, is_call, call_last, WritesNothing, nothing_written, prefix_all, prefix_stores, no_flow, does_then, call_registers}
-use Rattle.vw_sandbox.proofs.Instances.{stack_ends}
+use Rattle.vw_machine.proofs.Regions.{stack_ends}
 use Rattle.vw_sandbox.proofs.EntryStates.{entry_writes, entry_stands}
 use Rattle.vw_sandbox.proofs.Sites.{SiteLaws, any_extent, instance_of, machine_of, is_site, is_placed, is_memory, has_image, has_tables, byte_is, plain_bytes, pointer_is, entry_is, contains_got}
 use Rattle.vw_sandbox.proofs.Stating.{holds_words}

@@ -31,7 +31,7 @@ use Rattle.vw_sandbox.specs.Runs.{Reaches, begins}
 use Rattle.vw_sandbox.specs.Claims.{IsKept, ReturnsKept, KeepsRegisters, IsProbeStub, InsnPassesHeap, StepPassesHeap, PassesHeap}
 use Rattle.vw_sandbox.specs.Maps.{Map, IsSandboxedBy}
 use Rattle.vw_machine.proofs.WorldLemmas.{IsLimited, laid_out}
-use Rattle.vw_sandbox.proofs.Instances.{all_of}
+use Rattle.vw_machine.proofs.Regions.{all_of}
 use Rattle.vw_sandbox.proofs.Choices.{some_choice}
 use Rattle.vw_sandbox.proofs.Modules.{HoldsCode, code_bytes, headers_hold}
 

@@ -1,25 +1,23 @@
 -- Bytes at which no row has an immediate that counts among the bounds.
-use Rattle.std.proofs.Common.{◌≡◌, ℕ, ◌≤◌, ◌/◌, ◌==◌, Bool, true, false, cond, not, ◌&&◌, ◌||◌, List, [], ◌∷◌, length, get_or, Option, Some, None, refl, sym, ◌∙◌, ap, subst, arith, eq-eqb, inl, inr}
+use Rattle.std.proofs.Common.{◌≡◌, ℕ, ◌≤◌, ◌/◌, ◌==◌, Bool, true, false, cond, ◌&&◌, List, [], ◌∷◌, length, get_or, Option, Some, None, refl, sym, ◌∙◌, ap, subst, arith, eq-eqb, inl, inr}
 use Rattle.std.proofs.lemmas.Bool.{and_parts, cases_Bool, eqb-true, false≢true}
 use Rattle.std.specs.List.{list_all, find}
-use Rattle.vw_insn.specs.declared.operations.AluOp.{AluOp}
 use Rattle.vw_insn.specs.declared.operations.AluOp.TheVariants as alu
 use Rattle.vw_rows.specs.declared.patterns.Map.{Map}
 use Rattle.vw_rows.specs.declared.patterns.Map.TheVariants.{One, Two, Three}
-use Rattle.vw_rows.specs.declared.patterns.Key.{Key}
 use Rattle.vw_rows.specs.declared.forms.Kind.{Kind}
 use Rattle.vw_rows.specs.declared.forms.Kind.TheVariants as kind
 use Rattle.vw_rows.specs.declared.forms.Immediate.{Immediate}
 use Rattle.vw_rows.specs.declared.forms.Row.{Row}
 use Rattle.vw_rows.specs.declared.shape.Shape.{Shape}
 use Rattle.vw_rows.specs.Rows.{rows}
-use Rattle.vw_rows.specs.Lookup.{key, matches, takes_prefix, same_map, has_opcode, has_digit, has_form}
+use Rattle.vw_rows.specs.Lookup.{key, matches, takes_prefix, same_map, has_opcode}
 use Rattle.vw_rows.specs.Parts.{Modrm, Parts, rex_w}
 use Rattle.vw_rows.specs.Layout.{has_modrm, width_at, immediate_length, has_fixed}
 use Rattle.vw_rows.specs.Shape.{shape_of}
 use Rattle.vw_rows.specs.Meaning.{is_given, built}
 use Rattle.vw_insn.specs.declared.registers.Width.{Width}
-use Rattle.vw_decode.specs.Lexing.{◌>>=◌, Found, insn_found, Head, split, modrm_at, prefix_at, rex_at, third_byte, second_byte, opcode_at, head_at, row_at, tail_at, read}
+use Rattle.vw_decode.specs.Lexing.{◌>>=◌, Found, insn_found, Head, split, modrm_at, prefix_at, rex_at, third_byte, second_byte, opcode_at, row_at, tail_at, read}
 use Rattle.vw_state.specs.Bounds.{is_bounding, counted_immediate, bounds_near, bounds_read}
 use Rattle.vw_state.specs.Opcodes.{is_counting}
 
@@ -62,45 +60,15 @@ counts (kind.Xmm row) i = false
 not_true : {A : Type 0} → true ≡ false → A
 not_true e = absurd (false≢true (sym e))
 
-none_built : (k : Kind) (i : Immediate) (s : Shape) → counts k i ≡ false → counted_immediate (built k i s) ≡ None
-none_built (kind.Alu alu.Add) i s e = refl
-none_built (kind.Alu alu.Or) i s e = refl
-none_built (kind.Alu alu.Adc) i s e = refl
-none_built (kind.Alu alu.Sbb) i s e = refl
+none_built :
+    (k : Kind) (i : Immediate) (s : Shape) → counts k i ≡ false
+    → counted_immediate (built k i s) ≡ None
 none_built (kind.Alu alu.And) i s e = rw e refl
-none_built (kind.Alu alu.Sub) i s e = refl
-none_built (kind.Alu alu.Xor) i s e = refl
 none_built (kind.Alu alu.Cmp) i s e = rw e refl
-none_built kind.Push i s e = refl
-none_built kind.Pop i s e = refl
-none_built (kind.Extend signed from) i s e = refl
-none_built kind.Imul i s e = refl
-none_built (kind.Jcc c) i s e = refl
-none_built kind.Jump i s e = refl
-none_built kind.Call i s e = refl
-none_built kind.Ret i s e = refl
-none_built kind.Leave i s e = refl
-none_built kind.CallInd i s e = refl
-none_built kind.JumpInd i s e = refl
-none_built kind.Test i s e = refl
-none_built kind.Xchg i s e = refl
+none_built (kind.Alu _) i s e = refl
 none_built kind.Mov i s e = rw e refl
 none_built kind.MovImm i s e = not_true e
-none_built kind.Lea i s e = refl
-none_built kind.Nop i s e = refl
-none_built kind.Widen i s e = refl
-none_built kind.SignA i s e = refl
-none_built (kind.Shift op) i s e = refl
-none_built (kind.Unary op) i s e = refl
-none_built (kind.MulDiv op) i s e = refl
-none_built kind.Ud2 i s e = refl
-none_built (kind.Cmov c) i s e = refl
-none_built (kind.Set c) i s e = refl
-none_built (kind.Bits op) i s e = refl
-none_built kind.Bt i s e = refl
-none_built kind.Bswap i s e = refl
-none_built kind.Endbr i s e = refl
-none_built (kind.Xmm row) i s e = refl
+none_built _ i s e = refl
 
 -- ---- the rows whose immediate counts, by their opcodes
 

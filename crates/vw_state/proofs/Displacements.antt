@@ -1,5 +1,5 @@
 -- The statements of an instruction that is spelled: their fields are in range, and their displacements have 32 bits.
-use Rattle.std.proofs.Common.{ℕ, zero, suc, ◌+◌, ◌*◌, ◌%◌, ◌^◌, ◌<◌, ◌==◌, nat_lt, Bool, true, false, ◌&&◌, if◌then◌else◌, List, [], ◌∷◌, ◌++◌, Option, Some, None, subst, arith, inl, inr}
+use Rattle.std.proofs.Common.{◌≡◌, ℕ, ◌^◌, ◌<◌, ◌==◌, Bool, true, false, ◌&&◌, if◌then◌else◌, List, [], ◌∷◌, ◌++◌, Option, Some, None, subst, arith, inl, inr}
 use Rattle.std.specs.Prelude.{ℤ, pos, negsuc}
 use Rattle.std.proofs.lemmas.Bool.{cases_Bool}
 use Rattle.std.proofs.lemmas.Int.{ints}
@@ -40,44 +40,16 @@ use Rattle.vw_rows.specs.declared.forms.Operands.{Operands}
 use Rattle.vw_rows.specs.declared.forms.Operands.TheVariants as ops
 use Rattle.vw_rows.specs.declared.forms.Immediate.{Immediate}
 use Rattle.vw_rows.specs.declared.shape.Shape.{Shape}
-use Rattle.vw_rows.specs.Numbers.{IsBytes, signed_of, unsigned_of}
-use Rattle.vw_rows.specs.Parts.{Modrm, Parts, prefix_bytes, rex_bytes, opcode_bytes, sib_bytes, modrm_bytes, bytes_of, mode, rm, rex_b}
-use Rattle.vw_rows.specs.Shape.{has_rex, byte_register, register_place, rm_place, reg_number, xmm_operand, rm_width, first_place, second_place, xmm_second, shape_of}
+use Rattle.vw_rows.specs.Numbers.{IsBytes, signed_of}
+use Rattle.vw_rows.specs.Parts.{Modrm, Parts, mode}
+use Rattle.vw_rows.specs.Shape.{register_place, memory_at, rm_place, xmm_operand, rm_width, first_place, second_place, xmm_second, shape_of}
 use Rattle.vw_rows.specs.Meaning.{memory_in, is_given, source_or, mov_immediate, built}
 use Rattle.vw_rows.specs.Spelling.{Spells}
+use Rattle.vw_rows.proofs.Bytes.{ModrmBytes, OptionalBytes, part_bytes, unsigned_below}
+use Rattle.vw_rows.proofs.Places.{register_has, rm_has, first_has, second_has}
 use Rattle.vw_domain.specs.FormLaws.{IsDisplacement, HasDisplacement}
 
--- ---- bytes of the parts
-
-bytes_behind : (front rest : List ℕ) → IsBytes (front ++ rest) → IsBytes rest
-bytes_behind [] rest h = h
-bytes_behind (b ∷ bs) rest h = bytes_behind bs rest (λ i. h (suc i))
-
-bytes_before : (front rest : List ℕ) → IsBytes (front ++ rest) → IsBytes front
-bytes_before [] rest h i = omega arith
-bytes_before (b ∷ bs) rest h zero = h 0
-bytes_before (b ∷ bs) rest h (suc i) = bytes_before bs rest (λ j. h (suc j)) i
-
--- the displacement behind ModRM
-abbrev DispBytes : Option Modrm → Type 0
-DispBytes None = Unit {0}
-DispBytes (Some m) = IsBytes m.disp
-
-disp_bytes : (o : Option Modrm) → IsBytes (modrm_bytes o) → DispBytes o
-disp_bytes None h = tt
-disp_bytes (Some m) h = bytes_behind (sib_bytes m.sib) m.disp (λ i. h (suc i))
-
--- those that hold a displacement, and the immediate
-record FieldBytes (p : Parts) : Type 0 where
-  disp : DispBytes p.modrm
-  imm : IsBytes p.imm
-
-field_bytes : (p : Parts) → IsBytes (bytes_of p) → FieldBytes p
-field_bytes p h =
-    let a = bytes_behind (prefix_bytes p.prefix) (rex_bytes p.rex ++ (opcode_bytes p.map p.opcode ++ (modrm_bytes p.modrm ++ p.imm))) h in
-    let b = bytes_behind (rex_bytes p.rex) (opcode_bytes p.map p.opcode ++ (modrm_bytes p.modrm ++ p.imm)) a in
-    let c = bytes_behind (opcode_bytes p.map p.opcode) (modrm_bytes p.modrm ++ p.imm) b in
-    record { disp = disp_bytes p.modrm (bytes_before (modrm_bytes p.modrm) p.imm c); imm = bytes_behind (modrm_bytes p.modrm) p.imm c }
+-- ---- operands
 
 signed_fits : (bytes : List ℕ) → IsBytes bytes → IsDisplacement (signed_of bytes)
 signed_fits [] h = (omega (arith, ints), omega (arith, ints))
@@ -86,21 +58,6 @@ signed_fits (a ∷ b ∷ []) h = let ha = h 0 in let hb = h 1 in (omega (arith, 
 signed_fits (a ∷ b ∷ c ∷ []) h = (omega (arith, ints), omega (arith, ints))
 signed_fits (a ∷ b ∷ c ∷ d ∷ []) h = let ha = h 0 in let hb = h 1 in let hc = h 2 in let hd = h 3 in (omega (arith, ints), omega (arith, ints))
 signed_fits (a ∷ b ∷ c ∷ d ∷ e ∷ rest) h = (omega (arith, ints), omega (arith, ints))
-
-unsigned_fits : (bytes : List ℕ) → IsBytes bytes → unsigned_of bytes < 2 ^ 64
-unsigned_fits [] h = omega arith
-unsigned_fits (a ∷ []) h = omega arith
-unsigned_fits (a ∷ b ∷ []) h = omega arith
-unsigned_fits (a ∷ b ∷ c ∷ []) h = omega arith
-unsigned_fits (a ∷ b ∷ c ∷ d ∷ []) h = omega arith
-unsigned_fits (a ∷ b ∷ c ∷ d ∷ e ∷ []) h = omega arith
-unsigned_fits (a ∷ b ∷ c ∷ d ∷ e ∷ f ∷ []) h = omega arith
-unsigned_fits (a ∷ b ∷ c ∷ d ∷ e ∷ f ∷ g ∷ []) h = omega arith
-unsigned_fits (a ∷ b ∷ c ∷ d ∷ e ∷ f ∷ g ∷ i ∷ []) h =
-    let ha = h 0 in let hb = h 1 in let hc = h 2 in let hd = h 3 in let he = h 4 in let hf = h 5 in let hg = h 6 in let hi = h 7 in omega arith
-unsigned_fits (a ∷ b ∷ c ∷ d ∷ e ∷ f ∷ g ∷ i ∷ j ∷ rest) h = omega arith
-
--- ---- operands
 
 -- the displacement of a memory operand has 32 bits
 abbrev PlaceFits : Place → Type 0
@@ -116,53 +73,42 @@ abbrev XmmFits : XmmOperand → Type 0
 XmmFits (xmm.Reg n) = Unit {0}
 XmmFits (xmm.Mem mem) = IsDisplacement mem.disp
 
-byte_fits : (b : Bool) (n : ℕ) → PlaceFits (byte_register b n)
-byte_fits true n = tt
-byte_fits false n = elim (cases_Bool (nat_lt n 4)) [ inl hit ↦ rw hit tt | inr miss ↦ rw miss tt ]
+-- where the bytes of the parts are bytes
+memory_fits : (rex : Option ℕ) (o : Option Modrm) → OptionalBytes o → (m : Modrm) → o ≡ Some m
+    → IsDisplacement (memory_at rex m).disp
+memory_fits rex o h m e =
+    let there : ModrmBytes m = subst (λ (x : Option Modrm). OptionalBytes x) e h in
+    signed_fits m.disp there.disp
 
 register_fits : (w : Width) (rex : Option ℕ) (n : ℕ) → PlaceFits (register_place w rex n)
-register_fits W8 rex n = byte_fits (has_rex rex) n
-register_fits W16 rex n = tt
-register_fits W32 rex n = tt
-register_fits W64 rex n = tt
+register_fits w rex n = register_has PlaceFits (λ r. tt) (λ h. tt) w rex n
 
-rm_fits : (w : Width) (rex : Option ℕ) (o : Option Modrm) → DispBytes o → PlaceFits (rm_place w rex o)
-rm_fits w rex None h = tt
-rm_fits w rex (Some m) h = elim (cases_Bool (mode m.byte == 3)) [
-  | inl hit ↦ rw hit (register_fits w rex (rm m.byte + 8 * rex_b rex))
-  | inr miss ↦ rw miss (signed_fits m.disp h)
-]
+rm_fits :
+    (w : Width) (rex : Option ℕ) (o : Option Modrm) → OptionalBytes o
+    → PlaceFits (rm_place w rex o)
+rm_fits w rex o h = rm_has PlaceFits w rex o tt (register_fits w rex) (memory_fits rex o h)
 
-xmm_fits : (rex : Option ℕ) (o : Option Modrm) → DispBytes o → XmmFits (xmm_operand rex o)
+xmm_fits : (rex : Option ℕ) (o : Option Modrm) → OptionalBytes o → XmmFits (xmm_operand rex o)
 xmm_fits rex None h = tt
 xmm_fits rex (Some m) h = elim (cases_Bool (mode m.byte == 3)) [
   | inl hit ↦ rw hit tt
-  | inr miss ↦ rw miss (signed_fits m.disp h)
+  | inr miss ↦ rw miss (signed_fits m.disp h.disp)
 ]
 
-first_fits : (o : Operands) (k : Kind) (w : Width) (p : Parts) → DispBytes p.modrm → PlaceFits (first_place o k w p)
-first_fits ops.None k w p h = tt
-first_fits ops.EG k w p h = rm_fits (rm_width k w) p.rex p.modrm h
-first_fits ops.GE k w p h = register_fits w p.rex (reg_number p.rex p.modrm)
-first_fits ops.Accumulator k w p h = tt
-first_fits ops.E k w p h = rm_fits (rm_width k w) p.rex p.modrm h
-first_fits ops.OpcodeReg k w p h = register_fits w p.rex (p.opcode % 8 + 8 * rex_b p.rex)
-first_fits ops.WithoutRexB k w p h = tt
-first_fits ops.EndsInFa k w p h = tt
-first_fits ops.Xmm k w p h = tt
+first_fits :
+    (o : Operands) (k : Kind) (w : Width) (p : Parts) → OptionalBytes p.modrm
+    → PlaceFits (first_place o k w p)
+first_fits o k w p h =
+    first_has PlaceFits o k w p tt (register_fits w p.rex) (rm_fits (rm_width k w) p.rex p.modrm h)
 
-second_fits : (o : Operands) (k : Kind) (w : Width) (p : Parts) → DispBytes p.modrm → PlaceFits (second_place o k w p)
-second_fits ops.None k w p h = tt
-second_fits ops.EG k w p h = register_fits w p.rex (reg_number p.rex p.modrm)
-second_fits ops.GE k w p h = rm_fits (rm_width k w) p.rex p.modrm h
-second_fits ops.Accumulator k w p h = tt
-second_fits ops.E k w p h = tt
-second_fits ops.OpcodeReg k w p h = tt
-second_fits ops.WithoutRexB k w p h = tt
-second_fits ops.EndsInFa k w p h = tt
-second_fits ops.Xmm k w p h = tt
+second_fits :
+    (o : Operands) (k : Kind) (w : Width) (p : Parts) → OptionalBytes p.modrm
+    → PlaceFits (second_place o k w p)
+second_fits o k w p h =
+    second_has PlaceFits o k w p tt (register_fits w p.rex) (rm_fits (rm_width k w) p.rex p.modrm h)
 
-xmm_second_fits : (o : Operands) (p : Parts) → DispBytes p.modrm → XmmFits (xmm_second o p)
+xmm_second_fits :
+    (o : Operands) (p : Parts) → OptionalBytes p.modrm → XmmFits (xmm_second o p)
 xmm_second_fits ops.Xmm p h = xmm_fits p.rex p.modrm h
 xmm_second_fits _ p h = tt
 
@@ -228,11 +174,17 @@ module _ (i : Immediate) (s : Shape) (first : PlaceFits s.first) (second : Place
 spelled_fits : (bytes : List ℕ) (i : Insn) → Spells bytes i → InsnFits i × HasWord i
 spelled_fits bytes i s =
     let p = s.parts in
-    let n : FieldBytes p = field_bytes p (subst IsBytes s.spelled s.are_bytes) in
+    let o = s.row.operands in
+    let k = s.row.kind in
+    let n = part_bytes p (subst IsBytes s.spelled s.are_bytes) in
     subst (λ (x : Insn). InsnFits x × HasWord x) s.meant
-    (built_fits s.row.immediate (shape_of s.row s.width p)
-    (first_fits s.row.operands s.row.kind s.width p n.disp) (second_fits s.row.operands s.row.kind s.width p n.disp) (xmm_second_fits s.row.operands p n.disp)
-    (unsigned_fits p.imm n.imm) s.row.kind)
+    (built_fits s.row.immediate (shape_of s.row s.width p) (first_fits o k s.width p n.fields)
+    (second_fits o k s.width p n.fields) (xmm_second_fits o p n.fields)
+    (unsigned_below p.imm n.imm) k)
+
+-- its immediate has no more than 64 bits
+pub spelled_word : {bytes : List ℕ} {i : Insn} → Spells bytes i → HasWord i
+spelled_word {bytes} {i} s = (spelled_fits bytes i s).1
 
 -- ---- statements
 

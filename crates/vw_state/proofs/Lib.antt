@@ -13,7 +13,7 @@ mod TableTargets
 mod NearBounds
 mod BoundLists
 mod SiteRanges
-mod Displacements
+pub mod Displacements
 mod Counts
 mod EdgeRises
 mod FormGains

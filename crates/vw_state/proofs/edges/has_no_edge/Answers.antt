@@ -1,7 +1,6 @@
 use Rattle.std.proofs.Common.{◌≡◌, ◌∙◌, ◌+◌, ℕ, List, true, ap, sym, subst}
 use Rattle.vw_rows.specs.Numbers.{IsBytes}
 use Rattle.vw_stmt.specs.declared.operands.Var.{Var}
-use Rattle.vw_stmt.specs.declared.statement.Flow.{Flow}
 use Rattle.vw_lift.specs.Lifted.{steps, flow_of}
 use Rattle.vw_domain.specs.Abstract.{Abstract}
 use Rattle.vw_state.specs.Code.{BeginsAt}
