@@ -1,8 +1,6 @@
 -- A search by halves in an ascending list finds the first member that is not below a number.
-use Rattle.std.proofs.Common.{ap, true, false, ltb, ◌≡◌, ℕ, zero, suc, ◌<◌, ◌≤◌, inl, inr, Option, Some, None, List, [], ◌∷◌, length, get_or, refl, sym, ◌∙◌, arith}
+use Rattle.std.proofs.Common.{true, false, ◌≡◌, ℕ, zero, suc, ◌<◌, ◌≤◌, inl, inr, Option, Some, None, List, [], ◌∷◌, length, get_or, refl, sym, ◌∙◌, arith}
 use Rattle.std.specs.Prelude.{slice_get, IfSome, IsNone, ◌↔◌, ◌^◌}
-use Rattle.std.specs.List.{AllWithin}
-use Rattle.std.proofs.lemmas.Bool.{ltb-true, ltb-false}
 use Rattle.std.proofs.lemmas.Option.{slice_get-get_or, slice_get_past}
 use Rattle.vw_values.specs.Bounds.{first_from, IsMember, IsAscending, IsBounds, IsLeastFrom}
 use Rattle.vw_values.proofs.UpLemmas.{first-here, first-later, first-is-up, first-none}
@@ -30,16 +28,12 @@ first-at k (suc i) (m ∷ ms) below above =
     ∙ first-at k i ms (λ j before within. below (suc j) (omega arith) (omega arith)) (λ within. above (omega arith))
 
 -- where the members below k end
-module _ (k i : ℕ) (ms : List ℕ) (ascends : IsAscending ms) (below : AllWithin (λ m. ltb m k ≡ true) ms 0 i) (above : AllWithin (λ m. ltb m k ≡ false) ms i (length ms)) where
-  pub first-there : (u : ℕ) → i < length ms → u ≡ get_or ms i 0 → Some u ≡ first_from k ms
-  first-there u within is =
-      let found = first-at k i ms (λ j before inside. ltb-true (get_or ms j 0) k (below j 0 (omega arith) before)) (λ inside. ltb-false (get_or ms i 0) k (above i 0 (omega arith) inside)) in
-      ap Some is ∙ sym (slice_get-get_or ms i 0 within) ∙ sym found
+module _ (k i : ℕ) (ms : List ℕ) (below : (j : ℕ) → j < i → get_or ms j 0 < k) (above : (j : ℕ) → i ≤ j → j < length ms → k ≤ get_or ms j 0) where
+  pub first-there : i < length ms → Some (get_or ms i 0) ≡ first_from k ms
+  first-there within = sym (slice_get-get_or ms i 0 within) ∙ sym (first-at k i ms (λ j before _. below j before) (above i (omega arith)))
 
   pub none-there : length ms ≤ i → None ≡ first_from k ms
-  none-there past =
-      let found = first-at k i ms (λ j before inside. ltb-true (get_or ms j 0) k (below j 0 (omega arith) before)) (λ inside. absurd (omega arith)) in
-      sym (slice_get_past ms i past) ∙ sym found
+  none-there past = sym (slice_get_past ms i past) ∙ sym (first-at k i ms (λ j before _. below j before) (above i (omega arith)))
 
 pub least-where : (k : ℕ) (ms : List ℕ) (o : Option ℕ) → IsAscending ms → o ≡ first_from k ms → IfSome o (IsLeastFrom ms k)
 least-where k ms None ascends is = tt
