@@ -16,6 +16,7 @@ mod reports;
 mod rounds;
 mod rules;
 mod smallest;
+mod states;
 mod steps;
 mod table_checks;
 mod verdicts;

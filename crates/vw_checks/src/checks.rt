@@ -159,14 +159,15 @@ fn failing_stmts(
     ensures { (f : Context) → IsFunctionOf loaded.now f → IsSite f site.now
         → IfOk result (IsLowestOf (StmtsFail f next (abstract_of state.now) stmts.now)) }
 {
-    if never_fail_behind(stmts) {
-        return Ok(failing_first(loaded, site, stmts, next, state));
+    if !never_fail_behind(stmts) {
+        let mut copy = state.copy()?;
+        return change_all(loaded, site, stmts, next, &mut copy);
     }
-    let mut copy = state.copy()?;
-    change_each(loaded, site, stmts, next, &mut copy)
+    Ok(failing_first(loaded, site, stmts, next, state))
 }
 
-// The same, and changes the state as the statements do. Nothing is promised of it where memory is refused.
+// The same, and changes the state as the statements do: one by one, where a check may fail behind the first of them.
+// Nothing is promised of the state where memory is refused.
 fn change_all(
     loaded: &Module,
     site: &Site,
@@ -182,11 +183,16 @@ fn change_all(
     ensures form { OnOk result ((f : Context) → IsSite f site.now
         → abstract_of state.new ≡ applies (site_at f next) stmts.now (abstract_of state.old)) }
 {
-    if !never_fail_behind(stmts) {
-        return change_each(loaded, site, stmts, next, state);
+    if never_fail_behind(stmts) {
+        let first = failing_first(loaded, site, stmts, next, state);
+        change_by_stmts(site, next, stmts, state)?;
+        return Ok(first);
     }
-    let lowest = failing_first(loaded, site, stmts, next, state);
-    change_by_stmts(site, next, stmts, state)?;
+    let mut lowest = None;
+    for stmt in stmts {
+        lowest = lower(lowest, failing_stmt(loaded, site, stmt, next, state));
+        change_by_stmt(site, next, stmt, state)?;
+    }
     Ok(lowest)
 }
 
@@ -209,29 +215,4 @@ fn failing_first(
         [] => None,
         [first, ..] => failing_stmt(loaded, site, first, next, state),
     }
-}
-
-// The lowest number of the checks that fail at some statements, each with the state before it, which is changed as they
-// do. Nothing is promised of it where memory is refused.
-fn change_each(
-    loaded: &Module,
-    site: &Site,
-    stmts: &[Stmt],
-    next: u32,
-    state: &mut State,
-) -> Result<Option<u8>, OutOfMemory>
-    requires whole { IsWhole loaded.now }
-    requires few { length site.now.tables.now ≤ 64 }
-    requires lifted { AllByRecursion IsLifted stmts.now }
-    ensures lowest { (f : Context) → IsFunctionOf loaded.now f → IsSite f site.now
-        → IfOk result (IsLowestOf (StmtsFail f next (abstract_of state.old) stmts.now)) }
-    ensures form { OnOk result ((f : Context) → IsSite f site.now
-        → abstract_of state.new ≡ applies (site_at f next) stmts.now (abstract_of state.old)) }
-{
-    let mut lowest = None;
-    for stmt in stmts {
-        lowest = lower(lowest, failing_stmt(loaded, site, stmt, next, state));
-        change_by_stmt(site, next, stmt, state)?;
-    }
-    Ok(lowest)
 }

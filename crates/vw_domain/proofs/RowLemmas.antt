@@ -2,7 +2,7 @@
 use Rattle.std.proofs.Common.{◌≡◌, ◌≢◌, ℕ, ◌+◌, ◌<◌, ◌≤◌, Bool, true, false, List, length, refl, sym, arith, get_or-set_other, get_or-set_same, below_more, inl, inr, ap, ◌∙◌, get_or}
 use Rattle.std.proofs.Math.ListN.{set, get_or-eq_default}
 use Rattle.std.proofs.lemmas.Bool.{cases_lt}
-use Rattle.std.proofs.lemmas.List.{get_or_default, set-set, set-get_or}
+use Rattle.std.proofs.lemmas.List.{ext_get_or, get_or_default, set-set, set-get_or}
 use Rattle.std.specs.Prelude.{◌||◌}
 use Rattle.vw_lattice.specs.Order.{TellsChange}
 use Rattle.vw_domain.specs.declared.registers.Register.{Register}
@@ -35,6 +35,9 @@ all_below low high a b front =
 pub all_among : (bounds : List ℕ) (row : List Register) → length row ≡ 17 → ((r : ℕ) → r < 17 → IsAmong bounds (register_at row r).value) → IsRowAmong bounds row
 all_among bounds row a front =
     each (λ (r : ℕ). IsAmong bounds (register_at row r).value) 17 front (λ r behind. rw (unknown_at row r (omega arith)) tt)
+
+pub all_same : (row other : List Register) → length row ≡ 17 → length other ≡ 17 → ((r : ℕ) → r < 17 → register_at row r ≡ register_at other r) → row ≡ other
+all_same row other a b front = ext_get_or unknown_register row other (a ∙ sym b) (λ r within. front r (omega arith))
 
 unknown_joins : (bounds : List ℕ) → JoinsRegister bounds unknown_register unknown_register unknown_register
 unknown_joins bounds = stays_same bounds unknown_register unknown_register (record { value = tt; offset = tt }) refl

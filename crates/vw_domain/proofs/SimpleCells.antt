@@ -1,13 +1,16 @@
 -- Cells of one simple value are in order, whatever the bounds.
-use Rattle.std.proofs.Common.{◌≡◌, ℕ, List, Bool, true, refl, subst, ap}
+use Rattle.std.proofs.Common.{◌≡◌, ◌∙◌, ℕ, List, Bool, true, refl, subst, ap}
 use Rattle.std.specs.Prelude.{ℤ}
+use Rattle.vw_stack.specs.declared.offset.Offset.{Offset}
 use Rattle.vw_stack.specs.Stack.{offset_below}
 use Rattle.vw_stack.specs.StackOrder.{offset_reflexive}
 use Rattle.vw_values.specs.Values.{IsAmong, value_below}
+use Rattle.vw_values.specs.declared.value.Value.{Value}
 use Rattle.vw_values.specs.declared.value.Value.TheVariants.{Any, Num, HeapBase, HeapAddr, Globals, Entry}
 use Rattle.vw_domain.specs.declared.cells.Kind.{Kind}
 use Rattle.vw_domain.specs.declared.cells.Kind.TheVariants as kind
 use Rattle.vw_domain.specs.declared.cells.Word.{Word}
+use Rattle.vw_domain.specs.declared.registers.Register.{Register}
 use Rattle.vw_domain.specs.Registers.{register_below}
 use Rattle.vw_domain.specs.Cells.{is_simple, offset_by, register_of_word, value_by, AreOneSimple}
 
@@ -33,6 +36,24 @@ offset_under : (known known' : Bool) (c c' : ℤ) → known ≡ known' → c ≡
 offset_under known known' c c' same equal =
     subst (λ (b : Bool). offset_below (offset_by known c) (offset_by b c')) same
     (subst (λ (z : ℤ). offset_below (offset_by known c) (offset_by known z)) equal (offset_reflexive (offset_by known c)))
+
+-- what such a kind does not use tells no two registers apart
+value_same : (k k' : Kind) (f s t r f' s' t' r' : ℕ) → is_simple k ≡ true → k ≡ k' → r ≡ r' → value_by k f s t r ≡ value_by k' f' s' t' r'
+value_same kind.Any k' f s t r f' s' t' r' simple same register = ap (λ (q : Kind). value_by q f' s' t' r') same
+value_same kind.Num k' f s t r f' s' t' r' simple same register = ap (λ (q : Kind). value_by q f' s' t' r') same
+value_same kind.HeapBase k' f s t r f' s' t' r' simple same register = ap (λ (q : Kind). value_by q f' s' t' r') same
+value_same kind.HeapAddr k' f s t r f' s' t' r' simple same register = ap (λ (q : Kind). value_by q f' s' t' r') same
+value_same kind.Globals k' f s t r f' s' t' r' simple same register = ap (λ (q : Kind). value_by q f' s' t' r') same
+value_same kind.Entry k' f s t r f' s' t' r' simple same register = ap Entry register ∙ ap (λ (q : Kind). value_by q f' s' t' r') same
+value_same _ k' f s t r f' s' t' r' simple same register = absurd (cc)
+
+register_same : (a b : Register) → a.offset ≡ b.offset → a.value ≡ b.value → a ≡ b
+register_same a b offset value = ap (λ (o : Offset). record a { offset = o }) offset ∙ ap (λ (v : Value). record b { value = v }) value
+
+pub simple_same : (a b : Word) → AreOneSimple a b → register_of_word a ≡ register_of_word b
+simple_same a b are = register_same (register_of_word a) (register_of_word b)
+    (ap (λ (known : Bool). offset_by known a.offset) are.known ∙ ap (λ (c : ℤ). offset_by b.is_known c) are.offset)
+    (value_same a.kind b.kind a.first a.second a.table a.register b.first b.second b.table b.register are.simple are.kind are.register)
 
 pub simple_below : (a b : Word) → AreOneSimple a b → register_below (register_of_word a) (register_of_word b)
 simple_below a b are = record {

@@ -1,6 +1,6 @@
 -- The entries of the slots, one by one.
 use mir.Val.{SFits}
-use Rattle.std.proofs.Common.{w64, rules, ◌≡◌, ℕ, zero, suc, ◌+◌, ◌^◌, ◌<◌, ◌≤◌, List, [], ◌∷◌, length, get_or, sym, subst, arith, below_more, Some}
+use Rattle.std.proofs.Common.{w64, rules, ◌≡◌, ◌∙◌, ap, ℕ, zero, suc, ◌+◌, ◌^◌, ◌<◌, ◌≤◌, List, [], ◌∷◌, length, get_or, sym, subst, arith, below_more, Some}
 use Rattle.std.proofs.lemmas.Int.{ints}
 use Rattle.std.specs.Prelude.{ℤ, pos, ◌+ℤ◌, ◌-ℤ◌, ◌<ℤ◌, ◌≤ℤ◌, slice_get}
 use Rattle.vw_lattice.specs.Entries.{IsAscending, HasKey}
@@ -75,3 +75,14 @@ key_within slots i key value are found =
 -- and so a number of 64 bits
 pub key_fits : (key : ℤ) → (pos 0 -ℤ pos (2 ^ 33)) ≤ℤ key → key ≤ℤ pos (2 ^ 33 + 1) → SFits w64 key
 key_fits key low high = first_of (search rules, omega (arith, ints), grind (arith, ints))
+
+-- what one number reads of equal slots
+some_same : (p q : ℤ × Value) → Some p ≡ Some q → p ≡ q
+some_same p q e = cc
+
+pub entries_same : (slots other : List (ℤ × Value)) (i : ℕ) (key at : ℤ) (value same : Value) → slots ≡ other → slice_get slots i ≡ Some (key, value) → slice_get other i ≡ Some (at, same) → ◌≡◌ {A = ℤ × Value} (key, value) (at, same)
+entries_same slots other i key at value same are there here =
+    some_same (key, value) (at, same) (sym there ∙ (ap (λ (xs : List (ℤ × Value)). slice_get xs i) are ∙ here))
+
+pub same_entry : (key at : ℤ) (value same : Value) → key ≡ at → value ≡ same → ◌≡◌ {A = ℤ × Value} (key, value) (at, same)
+same_entry key at value same keys values = ap (λ (k : ℤ). (k, value)) keys ∙ ap (λ (v : Value). (at, v)) values

@@ -260,7 +260,7 @@ fn are_one_simple(a: &Word, b: &Word) -> bool
 }
 
 fn is_same_word(a: &Word, b: &Word) -> bool
-    ensures { IsTrue result → a.now ≡ b.now }
+    ensures { IsTrue result ↔ (a.now ≡ b.now) }
 {
     *a == *b
 }
@@ -348,15 +348,16 @@ impl Cell {
         )
     }
 
-    // Whether two cells are one, by which their registers are.
+    // Whether two cells are one, as they are exactly where their registers are.
     pub(crate) fn is_same(&self, other: &Cell) -> bool
-        ensures { IsTrue result → self.now ≡ other.now }
+        ensures { IsTrue result ↔ (self.now ≡ other.now) }
     {
         is_same_word(&self.word, &other.word)
     }
 
     // Whether two cells are of one register whose value names no bound, as most are.
     pub(crate) fn is_same_simple(&self, other: &Cell) -> bool
+        ensures same { IsTrue result → self.now ≡ other.now }
         ensures below { IsTrue result → register_below self.now other.now }
         ensures among { IsTrue result → (bounds : List ℕ) → IsAmong bounds other.now.value }
     {
@@ -364,6 +365,7 @@ impl Cell {
     }
 
     // Leaves of the register what is still known of it once registers are written. Only a tag is looked at.
+    #[inline(always)]
     pub(crate) fn forget(&mut self, gone: Gone)
         ensures { self.new ≡ forgotten_register gone self.old }
     {

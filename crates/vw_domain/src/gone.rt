@@ -49,22 +49,6 @@ pub(crate) fn remaining_value(value: Value, gone: Gone) -> Value
                 Value::TagOf { table, via }
             }
         }
-        Value::Any
-        | Value::Num
-        | Value::Const(_)
-        | Value::Below(_)
-        | Value::Low(_)
-        | Value::Both(_)
-        | Value::HeapBase
-        | Value::HeapAddr
-        | Value::Globals
-        | Value::Entry(_)
-        | Value::Image(_)
-        | Value::Index16 { .. }
-        | Value::EntryPtr(_)
-        | Value::EntryTyped { .. }
-        | Value::TableFn { .. }
-        | Value::JumpOff { .. }
-        | Value::JumpDest { .. } => value,
+        _ => value,
     }
 }

@@ -2,7 +2,6 @@
 #![tactic(auto)]
 
 mod after_calls;
-mod among;
 mod branch_edges;
 mod cells;
 mod changes;
@@ -40,8 +39,3 @@ pub use state::{State, entry_state};
 pub use state_of::PartsError;
 pub use state_parts::{Slot, StateParts};
 pub use stores::Content;
-
-#[cfg(test)]
-mod edge_tests;
-#[cfg(test)]
-mod tests;

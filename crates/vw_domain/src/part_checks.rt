@@ -106,22 +106,7 @@ fn is_narrow(value: Value) -> bool
     match value {
         Value::Const(c) => c < WHOLE,
         Value::Below(k) => k <= WHOLE,
-        Value::Any
-        | Value::Num
-        | Value::Low(_)
-        | Value::Both(_)
-        | Value::HeapBase
-        | Value::HeapAddr
-        | Value::Globals
-        | Value::Entry(_)
-        | Value::Image(_)
-        | Value::Index16 { .. }
-        | Value::EntryPtr(_)
-        | Value::EntryTyped { .. }
-        | Value::TagOf { .. }
-        | Value::TableFn { .. }
-        | Value::JumpOff { .. }
-        | Value::JumpDest { .. } => false,
+        _ => false,
     }
 }
 

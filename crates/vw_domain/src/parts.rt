@@ -5,8 +5,8 @@ ghost use Rattle.vw_domain.specs.StateJoin.{IsFactJoin, JoinsParts};
 ghost use Rattle.vw_domain.specs.Rest.{rest_below};
 
 use crate::cells::Cell;
-use crate::registers::{Register, does_row_land, is_row_below, join_rows};
-use crate::slots::are_slots_among;
+use crate::registers::{Register, does_row_land, is_row_below, is_row_same, join_rows};
+use crate::slots::{are_slots_among, are_slots_same};
 use std::alloc::Global;
 use vw_bits::OutOfMemory;
 use vw_lattice::{Lattice, MapOf};
@@ -107,6 +107,23 @@ pub(crate) fn do_land(low: &Parts, high: &Parts, bounds: &Bounds) -> bool
         return false;
     }
     are_slots_among(&high.slots, bounds) && is_rest_below(low, high)
+}
+
+// Whether parts are equal, and each bound that a value of them names is among these, in one pass over both.
+pub(crate) fn is_same(parts: &Parts, other: &Parts, bounds: &Bounds) -> bool
+    requires { AreSlots other.now.slots }
+    ensures { IsTrue result ↔ ((parts.now ≡ other.now) × Fits bounds.now other.now) }
+{
+    if parts.probed != other.probed || parts.fact != other.fact {
+        return false;
+    }
+    if !is_row_same(&parts.registers, &other.registers, bounds) {
+        return false;
+    }
+    if !are_slots_same(&parts.slots, &other.slots, bounds) {
+        return false;
+    }
+    parts.classes.is_same(&other.classes) && parts.written.is_same(&other.written)
 }
 
 // Whether one of these holds, each of which is said of a part.

@@ -143,6 +143,28 @@ pub(crate) fn does_row_land(low: &[Cell; 17], high: &[Cell; 17], bounds: &Bounds
     true
 }
 
+// Whether two registers are equal, and the bound that their value names is among these. Most name no bound.
+fn is_cell_same(cell: &Cell, other: &Cell, bounds: &Bounds) -> bool
+    ensures { IsTrue result ↔ ((cell.now ≡ other.now) × IsAmong bounds.now other.now.value) }
+{
+    if cell.is_same_simple(other) {
+        return true;
+    }
+    cell.is_same(other) && other.is_among(bounds)
+}
+
+// The same of each register of two rows, in one pass over both.
+pub(crate) fn is_row_same(row: &[Cell; 17], other: &[Cell; 17], bounds: &Bounds) -> bool
+    ensures { IsTrue result ↔ ((row.now ≡ other.now) × IsRowAmong bounds.now other.now) }
+{
+    for i in 0..17 {
+        if !is_cell_same(&row[i], &other[i], bounds) {
+            return false;
+        }
+    }
+    true
+}
+
 // Joins each of seventeen registers with that of the other row, and answers whether that changed one.
 pub(crate) fn join_rows(
     row: &mut [Cell],

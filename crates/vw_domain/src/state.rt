@@ -3,7 +3,7 @@ ghost use Rattle.vw_domain.specs.State.{Fits, IsState, IsValidState, state_below
 ghost use Rattle.vw_domain.specs.StateOrder.{state_reflexive, state_transitive, state_antisymmetric, state_falls, state_strict};
 
 use crate::cells::Cell;
-use crate::parts::{Parts, copy, copy_from, do_land, is_below, join, unknown_parts};
+use crate::parts::{Parts, copy, copy_from, do_land, is_below, is_same, join, unknown_parts};
 use crate::registers::{Register, is_row_among};
 use crate::slots::are_slots_among;
 use std::alloc::Global;
@@ -64,6 +64,14 @@ impl State {
         ensures { IsTrue result ↔ (Fits bounds.now other.now × state_below self.now other.now) }
     {
         do_land(&self.parts, &other.parts, bounds)
+    }
+
+    /// Whether the state is equal to the other one, and each bound that a value of it names is among these. Takes no
+    /// memory.
+    pub fn is_same(&self, other: &State, bounds: &Bounds) -> bool
+        ensures { IsTrue result ↔ ((self.now ≡ other.now) × Fits bounds.now other.now) }
+    {
+        is_same(&self.parts, &other.parts, bounds)
     }
 
     /// An equal state, in the memory of a spare one where this is given. OutOfMemory where the allocator refuses a request.

@@ -1,4 +1,4 @@
-ghost use Rattle.std.specs.Prelude.{◌<ℤ◌, ◌≤ℤ◌, ◌≤◌, ◌↔◌, length, IsTrue};
+ghost use Rattle.std.specs.Prelude.{◌≡◌, ◌<ℤ◌, ◌≤ℤ◌, ◌≤◌, ◌↔◌, length, IsTrue};
 ghost use Rattle.std.specs.List.{AllWithin};
 ghost use Rattle.vw_locals.specs.Ranges.{IsRanges, IsContained, written_below};
 
@@ -71,4 +71,11 @@ pub fn has_all(low: &[(i64, i64)], high: &[(i64, i64)]) -> bool
         }
     }
     true
+}
+
+// Whether two sets have the same ranges, by which they are one.
+pub fn are_same(ranges: &[(i64, i64)], other: &[(i64, i64)]) -> bool
+    ensures { IsTrue result ↔ (ranges.now ≡ other.now) }
+{
+    ranges == other
 }

@@ -5,7 +5,7 @@ ghost use Rattle.vw_locals.specs.RangeOrder.{written_transitive, written_antisym
 
 use crate::meet::meet;
 use crate::merge::merge;
-use crate::search::{contains, has_all};
+use crate::search::{are_same, contains, has_all};
 use std::alloc::Global;
 use std::marker::Model;
 use vw_bits::OutOfMemory;
@@ -75,6 +75,13 @@ impl Written {
         } else {
             None
         }
+    }
+
+    /// Whether the set is the other one. Takes no memory.
+    pub fn is_same(&self, other: &Written) -> bool
+        ensures { IsTrue result ↔ (self.now ≡ other.now) }
+    {
+        are_same(&self.ranges, &other.ranges)
     }
 
     /// Makes the set equal to another one, in the memory that it has where this is enough. Where memory is refused,

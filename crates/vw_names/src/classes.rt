@@ -8,7 +8,7 @@ ghost use Rattle.vw_names.specs.Spot.{number, slot_number};
 use crate::groups::groups;
 use crate::lookup::root_of;
 use crate::moves::{enter, leave, leave_between};
-use crate::order::is_coarser;
+use crate::order::{are_same, is_coarser};
 use crate::refine::refine;
 use crate::spot::{Spot, number_of};
 use std::alloc::Global;
@@ -113,6 +113,13 @@ impl Classes {
         let least = root_of(&self.entries, other);
         enter(&mut self.entries, place, least)?;
         Ok(())
+    }
+
+    /// Whether the division is the other one. Takes no memory.
+    pub fn is_same(&self, other: &Classes) -> bool
+        ensures { IsTrue result ↔ (self.now ≡ other.now) }
+    {
+        are_same(&self.entries, &other.entries)
     }
 
     /// The classes of two places or more, each with its places in order, in the order of their first places.

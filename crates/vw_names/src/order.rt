@@ -4,8 +4,8 @@ ghost use Rattle.vw_names.specs.Division.{IsDivision, division_below};
 use crate::lookup::root_of;
 
 // Whether two divisions have the same entries, by which they are one.
-fn are_same(low: &[(u128, u128)], high: &[(u128, u128)]) -> bool
-    ensures { IsTrue result → low.now ≡ high.now }
+pub fn are_same(low: &[(u128, u128)], high: &[(u128, u128)]) -> bool
+    ensures { IsTrue result ↔ (low.now ≡ high.now) }
 {
     low == high
 }

@@ -1,12 +1,14 @@
 -- The points of a table by their numbers, and the lowest place at which it is not safe.
-use Rattle.std.proofs.Common.{◌≡◌, ◌⊎◌, inl, inr, ℕ, zero, suc, ◌+◌, ◌≤◌, ◌<◌, Bool, true, false, cond, List, [], ◌∷◌, length, get_or, Option, Some, None, refl, sym, ◌∙◌, ap, subst, arith}
+use Rattle.std.proofs.Common.{◌≡◌, ◌⊎◌, inl, inr, ℕ, zero, suc, ◌+◌, ◌≤◌, ◌<◌, Bool, true, false, cond, List, [], ◌∷◌, ◌++◌, length, get_or, Option, Some, None, refl, sym, ◌∙◌, ap, subst, arith}
 use Rattle.std.specs.Prelude.{◌==◌}
 use Rattle.std.specs.List.{slice_get, find, All}
 use Rattle.std.specs.Option.{option_map}
 use Rattle.std.proofs.lemmas.Bool.Decides.{nat_tests}
+use Rattle.std.proofs.lemmas.List.Elements.{All-nil, All-cons}
 use Rattle.std.proofs.lemmas.Option.{slice_get_within, slice_get-get_or}
 use Rattle.vw_domain.specs.declared.parts.Parts.{Parts}
-use Rattle.vw_domain.specs.State.{entry_state}
+use Rattle.vw_domain.specs.State.{entry_state, Fits, IsState, IsValidState}
+use Rattle.vw_domain.specs.StateOrder.{state_reflexive}
 use Rattle.vw_state.specs.declared.tables.PointState.{PointState}
 use Rattle.vw_state.specs.Checks.{LacksCode}
 use Rattle.vw_state.specs.Context.{Context, code_of}
@@ -15,7 +17,7 @@ use Rattle.vw_state.specs.Solution.{Lands}
 use Rattle.vw_state.specs.Tables.{state_of, RisesWithin}
 use Rattle.vw_checks.specs.Checks.{lacks_code, Passes, LowestFailing}
 use Rattle.vw_checks.specs.Safe.{IsSafeTable}
-use Rattle.vw_recheck.specs.Places.{PointsAscend, PointFails, IsLowestAt, FailsIn, unordered, begins, point, IsLowestIn}
+use Rattle.vw_recheck.specs.Places.{PointsAscend, PointFails, IsEdgeTo, IsLowestAt, FailsIn, unordered, begins, point, IsLowestIn}
 use Rattle.vw_recheck.proofs.Order.{some_is, none_some, by_order, same_item, above_first, in_order}
 
 pub false_true : false ≡ true → ⊥
@@ -68,6 +70,39 @@ state_there from (q ∷ rest) rises (suc k) p e = later (q.at == p.at) (differ q
 pub given_there : (at k : ℕ) (d : PointState) (table : List PointState) → PointsAscend 0 table → k < length table → (get_or table k d).at ≡ at → state_of table at ≡ Some (get_or table k d).state
 given_there at k d table rises within same =
     subst (λ (a : ℕ). state_of table a ≡ Some (get_or table k d).state) same (state_there 0 table rises k (get_or table k d) (slice_get-get_or table k d within))
+
+-- ---- one edge
+
+-- the last of one edge is taken out
+pub only_edge : (front : List (ℕ × Parts)) (edge one : ℕ × Parts) → one ∷ [] ≡ front ++ edge ∷ [] → (front ≡ []) × (edge ≡ one)
+only_edge [] edge one e = (refl, cc)
+only_edge (x ∷ []) edge one e = absurd (cc)
+only_edge (x ∷ y ∷ rest) edge one e = absurd (cc)
+
+pub one_edge : (edges : List (ℕ × Parts)) (edge d : ℕ × Parts) → length edges ≡ 1 → edge ≡ get_or edges 0 d → edges ≡ edge ∷ []
+one_edge [] edge d one is = absurd (omega (arith, one))
+one_edge (x ∷ []) edge d one is = ap (λ (e : ℕ × Parts). e ∷ []) (sym is)
+one_edge (x ∷ y ∷ rest) edge d one is = absurd (omega (arith, one))
+
+pair_same : (edge : ℕ × Parts) (p : PointState) → edge.0 ≡ p.at → edge.1 ≡ p.state → edge ≡ (p.at, p.state)
+pair_same edge p at state = ap (λ (a : ℕ). (a, edge.1)) at ∙ ap (λ (s : Parts). (p.at, s)) state
+
+-- one edge goes to the point with this number, with its state
+pub edge_to : (table : List PointState) (next : ℕ) (edges : List (ℕ × Parts)) (edge d : ℕ × Parts) (there q : PointState)
+    → length edges ≡ 1 → edge ≡ get_or edges 0 d → next < length table → there ≡ get_or table next q → edge.0 ≡ there.at → edge.1 ≡ there.state → IsEdgeTo table next edges
+edge_to table next edges edge d there q one is within is_point at state = λ p found.
+    let same : p ≡ there = some_is (sym found ∙ slice_get-get_or table next q within) ∙ sym is_point in
+    one_edge edges edge d one is ∙ ap (λ (e : ℕ × Parts). e ∷ []) (pair_same edge there at state ∙ sym (ap (λ (r : PointState). (r.at, r.state)) same))
+
+-- it lands where its state has the function's bounds
+pub edge_lands : (f : Context) (table : List PointState) (next : ℕ) (edges : List (ℕ × Parts)) (edge d : ℕ × Parts) (there q : PointState)
+    → PointsAscend 0 table → length edges ≡ 1 → edge ≡ get_or edges 0 d → next < length table → there ≡ get_or table next q → edge.0 ≡ there.at → edge.1 ≡ there.state
+    → IsState there.state → Fits f.bounds there.state → All (Lands f table) edges
+edge_lands f table next edges edge d there q rises one is within is_point at state is_state fits =
+    let valid : IsValidState f.bounds there.state = record { state = is_state; fits = fits } in
+    let given_here : state_of table there.at ≡ Some there.state = state_there 0 table rises next there (slice_get-get_or table next q within ∙ ap Some (sym is_point)) in
+    let lands : Lands f table (there.at, there.state) = record { cover = there.state; there = given_here; fits = valid; is_below = state_reflexive f.bounds there.state valid } in
+    subst (λ (es : List (ℕ × Parts)). All (Lands f table) es) (sym (one_edge edges edge d one is ∙ ap (λ (e : ℕ × Parts). e ∷ []) (pair_same edge there at state))) (All-cons (Lands f table) (there.at, there.state) [] lands (All-nil (Lands f table)))
 
 -- ---- what fails at one point
 

@@ -44,6 +44,10 @@ IsLowestAt f table at state None = All (Lands f table) (edges_at f at state) × 
 IsLowestAt f table at state (Some lowest) =
     PointFails f table at state lowest × ((number : ℕ) → PointFails f table at state number → lowest ≤ number)
 
+-- the one edge goes to the point with this number, with the state that the table gives it
+abbrev pub IsEdgeTo : List PointState → ℕ → List (ℕ × Parts) → Type 0
+IsEdgeTo table next edges = (p : PointState) → slice_get table next ≡ Some p → edges ≡ (p.at, p.state) ∷ []
+
 -- ---- in the table of a function
 
 -- Where a table of a function is not safe, by offset and number: 0 where it is no solution, and else a check.

@@ -3,7 +3,7 @@ ghost use Rattle.std.specs.List.{All};
 ghost use Rattle.vw_state.specs.Context.{Context, IsSite};
 ghost use Rattle.vw_state.specs.Solution.{Lands};
 ghost use Rattle.vw_state.specs.Tables.{state_of};
-ghost use Rattle.vw_recheck.specs.Places.{PointsAscend};
+ghost use Rattle.vw_recheck.specs.Places.{PointsAscend, IsEdgeTo};
 
 use vw_domain::State;
 use vw_state::{PointState, Site};
@@ -82,4 +82,32 @@ pub(crate) fn all_land(
         }
     }
     true
+}
+
+/// Whether there is one edge, and it goes to the point with this number in the table, with the state that the table gives
+/// the point, whose bounds are the function's. Takes no memory.
+pub(crate) fn goes_on(
+    site: &Site,
+    states: &[PointState],
+    next: usize,
+    edges: &[(u32, State)],
+) -> bool
+    requires { PointsAscend 0 states.now }
+    ensures same { IsTrue result → IsEdgeTo states.now next edges.now }
+    ensures lands { IsTrue result → (f : Context) → IsSite f site.now
+        → All (Lands f states.now) edges.now }
+{
+    if edges.len() != 1 {
+        return false;
+    }
+    if states.len() <= next {
+        return false;
+    }
+    let edge = &edges[0];
+    let point = &states[next];
+    if edge.0 != point.at {
+        return false;
+    }
+    point.state.is_state();
+    edge.1.is_same(&point.state, site.bounds)
 }

@@ -14,4 +14,4 @@ same_pairs x y =
     (λ t. let parts = both.0 t in pair_same x y parts.0 parts.1, λ e. both.1 (ap (λ (p : ℕ × ℕ). p.0) e, ap (λ (p : ℕ × ℕ). p.1) e))
 
 pub returns : goal.returns
-returns c = (slice_eq-Decides same_pairs c.args.low.now c.args.high.now c.eq.result c.eq.ensures).0
+returns c = slice_eq-Decides same_pairs c.args.low.now c.args.high.now c.eq.result c.eq.ensures

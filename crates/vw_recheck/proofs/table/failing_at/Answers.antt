@@ -10,8 +10,8 @@ use Rattle.vw_state.proofs.Sites.{site_code}
 use Rattle.vw_recheck.proofs.Points.{false_true, edge_out, edges_land}
 use Rattle.vw_recheck.proofs.table.failing_at.Goals as goal
 
-pub returns-in_default : goal.returns-in_default
-returns-in_default c = λ f listed is.
+pub returns-in_default-clause-lowest : goal.returns-in_default-clause-lowest
+returns-in_default-clause-lowest c = λ f listed is.
     let context = context_of c.args.loaded.now f in
     let states = c.args.states.now in
     let at = c.args.point.now.at in
@@ -23,8 +23,8 @@ returns-in_default c = λ f listed is.
     (subst (λ (es : List (ℕ × Parts)). All (Lands context states) es) edges (All-nil (Lands context states)))
     (c.in_ok-lacking.ensures f listed is)
 
-pub returns-then-has_no_edge : goal.returns-then-has_no_edge
-returns-then-has_no_edge c = λ f listed is.
+pub returns-then-has_no_edge-clause-lowest : goal.returns-then-has_no_edge-clause-lowest
+returns-then-has_no_edge-clause-lowest c = λ f listed is.
     let context = context_of c.args.loaded.now f in
     let states = c.args.states.now in
     let at = c.args.point.now.at in
@@ -34,27 +34,40 @@ returns-then-has_no_edge c = λ f listed is.
     (subst (λ (es : List (ℕ × Parts)). All (Lands context states) es) (sym none) (All-nil (Lands context states)))
     (rw c.in_ok-state.ensures.copy at (c.in_ok-number.ensures.lowest f listed is))
 
-pub returns-then-not-all_land : goal.returns-then-not-all_land
-returns-then-not-all_land c = λ f listed is.
+pub returns-then-not-all_land-clause-lowest : goal.returns-then-not-all_land-clause-lowest
+returns-then-not-all_land-clause-lowest c = λ f listed is.
     let context = context_of c.args.loaded.now f in
     let states = c.args.states.now in
     let at = c.args.point.now.at in
     let state = c.args.point.now.state in
     let edges = edges_at context at state in
     let behind = rw c.in_ok-state.ensures.copy at (c.in_ok-number.ensures.behind context is) in
-    let same = c.as_slice-2.ensures ∙ (c.in_ok-post_behind.ensures.edges context state is behind ∙ ap (λ (front : List (ℕ × Parts)). front ++ edges) c.copy_in.ensures.empty) in
+    let same = c.as_slice-3.ensures ∙ (c.in_ok-post_behind.ensures.edges context state is behind ∙ ap (λ (front : List (ℕ × Parts)). front ++ edges) c.state_in.ensures.empty) in
     edge_out context states at state
     (λ all. false_true ((c.if-not-all_land.ensures context is).1 (subst (λ (es : List (ℕ × Parts)). All (Lands context states) es) (sym same) all)))
 
-pub returns : goal.returns
-returns c = λ f listed is.
+pub returns-clause-lowest : goal.returns-clause-lowest
+returns-clause-lowest c = λ f listed is.
     let context = context_of c.args.loaded.now f in
     let states = c.args.states.now in
     let at = c.args.point.now.at in
     let state = c.args.point.now.state in
     let edges = edges_at context at state in
     let behind = rw c.in_ok-state.ensures.copy at (c.in_ok-number.ensures.behind context is) in
-    let same = c.as_slice-2.ensures ∙ (c.in_ok-post_behind.ensures.edges context state is behind ∙ ap (λ (front : List (ℕ × Parts)). front ++ edges) c.copy_in.ensures.empty) in
+    let same = c.as_slice-3.ensures ∙ (c.in_ok-post_behind.ensures.edges context state is behind ∙ ap (λ (front : List (ℕ × Parts)). front ++ edges) c.state_in.ensures.empty) in
     edges_land context states at state c.in_ok-number.number
     (subst (λ (es : List (ℕ × Parts)). All (Lands context states) es) same ((c.if-not-all_land.ensures context is).0 refl))
+    (rw c.in_ok-state.ensures.copy at (c.in_ok-number.ensures.lowest f listed is))
+
+pub returns-then-goes_on-clause-lowest : goal.returns-then-goes_on-clause-lowest
+returns-then-goes_on-clause-lowest c = λ f listed is.
+    let context = context_of c.args.loaded.now f in
+    let states = c.args.states.now in
+    let at = c.args.point.now.at in
+    let state = c.args.point.now.state in
+    let edges = edges_at context at state in
+    let behind = rw c.in_ok-state.ensures.copy at (c.in_ok-number.ensures.behind context is) in
+    let same = c.as_slice-2.ensures ∙ (c.in_ok-post_behind.ensures.edges context state is behind ∙ ap (λ (front : List (ℕ × Parts)). front ++ edges) c.state_in.ensures.empty) in
+    edges_land context states at state c.in_ok-number.number
+    (subst (λ (es : List (ℕ × Parts)). All (Lands context states) es) same (c.if-goes_on.ensures.lands refl context is))
     (rw c.in_ok-state.ensures.copy at (c.in_ok-number.ensures.lowest f listed is))

@@ -4,7 +4,7 @@ use Rattle.vw_domain.specs.Statements.{applies}
 use Rattle.vw_state.specs.Context.{Context, IsSite, site_at}
 use Rattle.vw_checks.specs.Checks.{IsLowestOf, StmtsFail, lower}
 use Rattle.vw_checks.specs.Functions.{IsFunctionOf}
-use Rattle.vw_checks.proofs.checks.change_each.Given as goal
+use Rattle.vw_checks.proofs.checks.change_all.Given as goal
 
 abbrev pub invariant-loop-stmt : goal.invariant-loop-stmt
 invariant-loop-stmt l = record {

@@ -1,6 +1,6 @@
 use Rattle.vw_domain.specs.Abstract.{abstract_of}
 use Rattle.vw_checks.proofs.Rest.{one_more, all_done, one_applied, all_applied}
-use Rattle.vw_checks.proofs.checks.change_each.Goals as goal
+use Rattle.vw_checks.proofs.checks.change_all.Goals as goal
 
 pub loop-stmt-preserved : goal.loop-stmt-preserved
 loop-stmt-preserved c =
